@@ -39,9 +39,9 @@ pub use Rattle.std.specs.Option.{option_to_list}
 pub use Rattle.std.specs.Prelude.{IsOk, MatchOption, OnSome, T, bit_or, unwrap_or}
 pub use Rattle.std.specs.Result.{result_err}
 pub use Rattle.std.specs.Vec.{vec_capacity, vec_len}
-pub use Rattle.zl_calls.proofs.policy.Plain.{Calls}
-unfoldable pub use Rattle.zl_calls.proofs.policy.Plain.{refusal}
-pub use Rattle.zl_calls.specs.Acted.{Acted, Acts, Exits, action_of}
+pub use Rattle.zl_calls.proofs.policy.Plain.{PlainCalls}
+unfoldable pub use Rattle.zl_calls.proofs.policy.Plain.{plain_refusal}
+pub use Rattle.zl_calls.specs.Acted.{Acted, ActsHere, Exits, action_asked}
 pub use Rattle.zl_calls.specs.Acting.{DoesNext, IsActed, StaysAwake, is_local}
 pub use Rattle.zl_calls.specs.Blocked.{AreBlocked, AreLeft, AreOrdered, AreSought, IsWhole, StandInOrder, takes_at, takes_from}
 pub use Rattle.zl_calls.specs.Blocking.{then_blocked}
@@ -49,9 +49,9 @@ pub use Rattle.zl_calls.specs.Consistent.{AreNamed, IsConsistent, IsNamed}
 pub use Rattle.zl_calls.specs.FieldFaults.{fields_fault, last_fault}
 pub use Rattle.zl_calls.specs.Gives.{Gives, IsBare, allowed, if_default, process_given, rights_if}
 pub use Rattle.zl_calls.specs.Killing.{AreClosed, AreClosedBut, IsClosed, StandsBefore, StayBlocked, ended_among}
-pub use Rattle.zl_calls.specs.Leaving.{IsStarted, NoneUnstarted, left_beside, left_state}
+pub use Rattle.zl_calls.specs.Leaving.{HasBegun, NoneUnstarted, left_beside, left_state}
 pub use Rattle.zl_calls.specs.Makes.{IsCauseOf, IsReached, Makes, koid_fault, making_pair, seen}
-pub use Rattle.zl_calls.specs.Making.{IsMaking, IsSound, IsUnwatched, is_killed}
+pub use Rattle.zl_calls.specs.Making.{AreSound, IsMaking, IsUnwatched, is_killed}
 pub use Rattle.zl_calls.specs.Policed.{EndsBy, IsDenied, Policed, on_fault_by, verdict_by, verdict_in, verdict_on}
 unfoldable pub use Rattle.zl_calls.specs.Policed.{operands_fault}
 pub use Rattle.zl_calls.specs.Reaching.{CallActs, CalledAmong, IsAnsweredIn, IsToldIn, Reaches, acts, kills, kills_itself, starts}
@@ -132,8 +132,8 @@ pub use Rattle.zl_code.specs.declared.history.Outcome.{Outcome}
 pub use Rattle.zl_code.specs.declared.history.TraceItem.{TraceItem}
 pub use Rattle.zl_code.specs.declared.instr.CallInstr.{CallInstr}
 pub use Rattle.zl_interp.specs.Bursts.{after_locals}
-pub use Rattle.zl_interp.specs.Common.{StandsNext, call_in, handle_register, program_value, register_set, started_cpu}
-pub use Rattle.zl_jobs.specs.Jobs.{Job, job_within}
+pub use Rattle.zl_interp.specs.Common.{StandsNext, call_here, handle_register, program_value, register_set, started_cpu}
+pub use Rattle.zl_jobs.specs.Jobs.{Job, job_within_here}
 pub use Rattle.zl_jobs.specs.declared.job.JobFault.{JobFault}
 pub use Rattle.zl_objects.proofs.Bodies.{alone_changed, job_changed, more_in_job, same_in_job}
 pub use Rattle.zl_objects.proofs.ByKoid.{put_last}
@@ -145,14 +145,15 @@ pub use Rattle.zl_objects.proofs.Showing.{job_shown, process_shown}
 pub use Rattle.zl_objects.proofs.Sums.{any_counted, any_summed, count_none, counted_any, positive_part, sum_fewer, sum_without, summed_any}
 pub use Rattle.zl_objects.specs.Awaited.{AreSameButSleepers, KeepSleepers, Seeks, is_same, koid_of}
 pub use Rattle.zl_objects.specs.Calm.{holds_now, is_due, knowing, slept}
-pub use Rattle.zl_objects.specs.Jobs.{is_dead, is_within, job_at, killed_body, killed_if, killing, new_in, setting_policy, with_policy_body, with_policy_set}
-pub use Rattle.zl_objects.specs.Listed.{LeavesListed, holds_at, is_keyed_at, is_made_at, is_there, may_register, unlisting, wait_value, watch_of, watching}
-pub use Rattle.zl_objects.specs.Objects.{Objects, changing, has_place, held_once_more, holding, is_child, is_job_at, is_job_body, is_job_in, is_kept, job_in}
-pub use Rattle.zl_objects.specs.Objects.{job_of, keeper_of, kind_at, kind_in, new_object, peer_at, queue_in, raised_changed, root_alone, started, started_body}
-pub use Rattle.zl_objects.specs.Objects.{starting, stays_alone, stopped, stopped_body, stopping, with_new}
-unfoldable pub use Rattle.zl_objects.specs.Objects.{has_living_child}
-pub use Rattle.zl_objects.specs.Ports.{at_port, changed_port, changing_port, new_port, packets_in, packets_of}
-pub use Rattle.zl_objects.specs.Release.{AreKeptBut, Cascades, Releases, all_koids, koids_of, none_left}
+pub use Rattle.zl_objects.specs.Jobs.{is_dead_here, is_within_here, job_at, killed_body, killed_if, killing, new_in, setting_policy, with_policy_body}
+pub use Rattle.zl_objects.specs.Jobs.{with_policy_set}
+pub use Rattle.zl_objects.specs.Listed.{LeavesListed, holds_at, is_keyed_at, is_made_at, is_there, may_register_here, unlisting, wait_value, watch_of, watching}
+pub use Rattle.zl_objects.specs.Objects.{Objects, changing, has_place, held_once_more, holding, is_child, is_job_at, is_job_here, is_job_in, is_kept, job_in}
+pub use Rattle.zl_objects.specs.Objects.{job_of, keeper_of, kind_here, kind_in, new_object, peer_here, queue_found, raised_changed, root_alone, started}
+pub use Rattle.zl_objects.specs.Objects.{started_body, starting, stays_alone, stopped, stopped_body, stopping, with_new}
+unfoldable pub use Rattle.zl_objects.specs.Objects.{has_living_child_here}
+pub use Rattle.zl_objects.specs.Ports.{at_port, changed_port, changing_port, new_port, packets_found, packets_of}
+pub use Rattle.zl_objects.specs.Release.{AreKeptBut, Cascades, Releases, all_koids, koids_in, none_left}
 pub use Rattle.zl_objects.specs.Seen.{Agrees, IsExact, body_value, is_above, is_in_job, object_entry, object_value, with_all, with_objects}
 pub use Rattle.zl_objects.specs.Signals.{ShowStates, signals_at}
 pub use Rattle.zl_objects.specs.Sleepers.{IsUnlisted, ListsLast, TakesDue, is_for, listed_for}

@@ -6,7 +6,7 @@ use Rattle.zl_code.specs.Programs.{HavePrograms}
 use Rattle.zl_code.specs.Sound.{IsSound, is_blocked}
 use Rattle.zl_rights.specs.Signals.{state_passes}
 use Rattle.zl_verify.specs.Covered.{IsCovered, IsVerified}
-use Rattle.zl_rights.specs.World.{Awaited as AwaitedValue, State, Blocked, PacketAt}
+use Rattle.zl_rights.specs.World.{Awaited, State, Blocked, PacketAt}
 use Rattle.zl_objects.specs.Awaited.{Seeks}
 use Rattle.zl_objects.specs.Sleepers.{listed_for}
 use Rattle.zl_objects.specs.Objects.{Objects}
@@ -22,7 +22,7 @@ pub record AreBlocked (processes : List Process) (blocked : List ℕ) : Type 0 w
 
 -- what each blocked process waits for is known to the objects
 abbrev pub AreSought : List Process → Objects → Type 0
-AreSought processes r = (k : ℕ) (p : ProcessValue) (awaited : AwaitedValue) (destinations : List ℕ) → get (map process_entry processes) k ≡ Some p
+AreSought processes r = (k : ℕ) (p : ProcessValue) (awaited : Awaited) (destinations : List ℕ) → get (map process_entry processes) k ≡ Some p
     → p.state ≡ Blocked awaited destinations → Seeks r k (awaited_of awaited)
 
 -- a process in this state is blocked on packets of the port

@@ -29,9 +29,9 @@ awaited_in (Blocked awaited destinations) = Some (awaited_of awaited)
 awaited_in _ = None
 
 -- the same of the process that was found
-abbrev pub awaited_by : Option ProcessValue → Option Awaited
-awaited_by None = None
-awaited_by (Some p) = awaited_in p.state
+abbrev pub awaited_found : Option ProcessValue → Option Awaited
+awaited_found None = None
+awaited_found (Some p) = awaited_in p.state
 
 -- the process comes to be listed for this, the last of its port, or perhaps not all are listed
 abbrev pub ComesLast : ℕ → Objects → Objects → Awaited → Type 0
@@ -43,6 +43,6 @@ pub record FallsAsleep (ps : List Process) (pid : ℕ) (x : TraceItem) (r r2 : O
   pub waits : r2.waits ≡ r.waits
   pub made : r2.waits_made ≡ r.waits_made
   pub others : (q : ℕ) (a : Awaited) → Seeks r q a → Seeks r2 q a
-  pub itself : tells_asleep x ≡ true → (a : Awaited) → awaited_by (get (map process_entry ps) pid) ≡ Some a → Seeks r2 pid a
+  pub itself : tells_asleep x ≡ true → (a : Awaited) → awaited_found (get (map process_entry ps) pid) ≡ Some a → Seeks r2 pid a
   pub same : tells_asleep x ≡ false → KeepSleepers r r2
-  pub last : tells_asleep x ≡ true → (a : Awaited) → awaited_by (get (map process_entry ps) pid) ≡ Some a → ComesLast pid r r2 a
+  pub last : tells_asleep x ≡ true → (a : Awaited) → awaited_found (get (map process_entry ps) pid) ≡ Some a → ComesLast pid r r2 a

@@ -8,7 +8,7 @@ use Rattle.zl_rights.specs.declared.entry.Entry.{Entry}
 use Rattle.zl_rights.specs.World.{Message}
 use Rattle.zl_table.specs.Table.{IsTable}
 use Rattle.zl_objects.specs.declared.object.Object.{Object}
-use Rattle.zl_objects.specs.Objects.{Objects, queue_of}
+use Rattle.zl_objects.specs.Objects.{Objects, queue_held}
 use Rattle.zl_objects.specs.Release.{AreKeptBut}
 use Rattle.zl_objects.specs.Seen.{Agrees, body_value, is_in_job}
 use Rattle.zl_calls.specs.declared.process.Process.{Process}
@@ -39,7 +39,7 @@ pub record IsConsistent (processes : List Process) (r : Objects) : Type 0 where
   pub no_zero : (k : ℕ) → IsTrue (has_key r.objects k) → 0 < k
   pub tables : (k : ℕ) (p : ProcessValue) → get (map process_entry processes) k ≡ Some p → IsTable p.handles
   pub named : (k : ℕ) (p : ProcessValue) (v : ℕ) (e : Entry) → get (map process_entry processes) k ≡ Some p → get p.handles v ≡ Some e → IsNamed r.objects e
-  pub queued : (k : ℕ) (o : Object) → get r.objects k ≡ Some o → AreNamed r.objects (queue_of o.body)
+  pub queued : (k : ℕ) (o : Object) → get r.objects k ≡ Some o → AreNamed r.objects (queue_held o.body)
   pub counted : (k : ℕ) (o : Object) → get r.objects k ≡ Some o → o.handles ≡ handles_to (world_value processes r) k
   pub agrees : (k : ℕ) (o : Object) → get r.objects k ≡ Some o → Agrees (world_value processes r) k o.body
   pub in_jobs : (k : ℕ) (o : Object) → get r.objects k ≡ Some o → IsTrue (is_in_job r.objects o.body)

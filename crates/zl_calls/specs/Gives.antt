@@ -1,7 +1,7 @@
 -- How the handles of a statement get into the table of its process. No public clause cites this module.
 use Rattle.std.specs.Prelude.{ℕ, ◌≡◌, Bool, List, [], length, Option, Some, None, IsTrue}
 use Rattle.std.specs.Bool.{then_some}
-use Rattle.zl_code.specs.Common.{Map, get, rights_of, Process as ProcessValue, Object as ObjectValue, body_in, has_default_rights}
+use Rattle.zl_code.specs.Common.{Map, get, rights_of, Process as ProcessValue, Object, body_in, has_default_rights}
 use Rattle.zl_rights.specs.declared.rights.Rights.{Rights}
 use Rattle.zl_rights.specs.declared.entry.Entry.{Entry}
 use Rattle.zl_code.specs.declared.boot.Grant.{Grant}
@@ -28,7 +28,7 @@ if_default None = None
 if_default (Some e) = then_some (has_default_rights e) e
 
 -- the handle that is to be given, if it may be
-abbrev pub allowed : Map ObjectValue → Grant → Option Entry
+abbrev pub allowed : Map Object → Grant → Option Entry
 allowed objects g = if_default (handle_given g (body_in (get objects g.koid)))
 
 -- the process has no handle, and had none, so that its table offers 1, 2, ..

@@ -1,7 +1,7 @@
 -- What a kill makes of the processes that were listed, and what stays so that it need not look at the others. No public clause cites this module.
 use Rattle.std.specs.Prelude.{ℕ, ◌≡◌, ◌<◌, false, List, [], Some, None, slice_get, if◌then◌else◌}
 use Rattle.zl_rights.specs.Signals.{lives}
-use Rattle.zl_objects.specs.Below.{is_among}
+use Rattle.zl_objects.specs.Below.{is_one_of}
 use Rattle.zl_objects.specs.Objects.{Objects}
 use Rattle.zl_calls.specs.Blocked.{AreBlocked}
 use Rattle.zl_calls.specs.World.{state_value}
@@ -18,11 +18,11 @@ AreClosed ps = (n : ℕ) (p : Process) → slice_get ps n ≡ Some p → IsClose
 
 -- so it is of each but perhaps these
 abbrev pub AreClosedBut : List ℕ → List Process → Type 0
-AreClosedBut ks ps = (n : ℕ) (p : Process) → slice_get ps n ≡ Some p → is_among p.pid ks ≡ false → IsClosed p
+AreClosedBut ks ps = (n : ℕ) (p : Process) → slice_get ps n ≡ Some p → is_one_of p.pid ks ≡ false → IsClosed p
 
 -- if it is one of these, a process that lives has ended, where it is the task or stands below it
 abbrev pub ended_among : Objects → ℕ → List ℕ → Process → Process
-ended_among r task ks p = if is_among p.pid ks then ended_within r task p else p
+ended_among r task ks p = if is_one_of p.pid ks then ended_within r task p else p
 
 -- just who was blocked is
 abbrev pub StayBlocked : List Process → List Process → Type 0

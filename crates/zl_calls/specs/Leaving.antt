@@ -19,9 +19,9 @@ abbrev pub left_beside : Map Object → Process → Process
 left_beside objects p = record p { state = left_state (has_key objects p.pid) p.state }
 
 -- the process was started, or is gone
-abbrev pub IsStarted : Process → Type 0
-IsStarted p = is_created (state_value p.state) ≡ false
+abbrev pub HasBegun : Process → Type 0
+HasBegun p = is_created (state_value p.state) ≡ false
 
 -- no process before the place is unstarted
 abbrev pub NoneUnstarted : ℕ → List Process → Type 0
-NoneUnstarted n ps = All IsStarted (take n ps)
+NoneUnstarted n ps = All HasBegun (take n ps)

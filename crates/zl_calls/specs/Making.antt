@@ -10,14 +10,14 @@ use Rattle.zl_objects.specs.declared.object.Body.{Body}
 use Rattle.zl_objects.specs.declared.object.Body.TheVariants as body
 use Rattle.zl_objects.specs.declared.object.Object.{Object}
 use Rattle.zl_calls.specs.declared.process.Process.{Process}
-use Rattle.zl_objects.specs.Objects.{Objects, queue_of}
+use Rattle.zl_objects.specs.Objects.{Objects, queue_held}
 use Rattle.zl_objects.specs.Seen.{Agrees, is_in_job}
 use Rattle.zl_calls.specs.World.{process_entry, world_value}
 use Rattle.zl_calls.specs.Consistent.{IsNamed, AreNamed}
 
 -- The invariant but for what keeps the objects, where the handles m are in no table and count all the same:
 -- they have left one, or are to enter that of a process which isn't there yet.
-pub record IsSound (ps : List Process) (m : Map Entry) (r : Objects) : Type 0 where
+pub record AreSound (ps : List Process) (m : Map Entry) (r : Objects) : Type 0 where
   pub processes_in_order : IsTrue (is_sorted nat_cmp (map process_entry ps))
   pub objects_in_order : IsTrue (is_sorted nat_cmp r.objects)
   pub given_processes : (k : ℕ) → IsTrue (has_key (map process_entry ps) k) → k < r.next_koid
@@ -27,7 +27,7 @@ pub record IsSound (ps : List Process) (m : Map Entry) (r : Objects) : Type 0 wh
   pub no_zero : (k : ℕ) → IsTrue (has_key r.objects k) → 0 < k
   pub tables : (k : ℕ) (p : ProcessValue) → get (map process_entry ps) k ≡ Some p → IsTable p.handles
   pub named : (k : ℕ) (p : ProcessValue) (v : ℕ) (e : Entry) → get (map process_entry ps) k ≡ Some p → get p.handles v ≡ Some e → IsNamed r.objects e
-  pub queued : (k : ℕ) (o : Object) → get r.objects k ≡ Some o → AreNamed r.objects (queue_of o.body)
+  pub queued : (k : ℕ) (o : Object) → get r.objects k ≡ Some o → AreNamed r.objects (queue_held o.body)
   pub counted : (k : ℕ) (o : Object) → get r.objects k ≡ Some o → o.handles ≡ handles_to (world_value ps r) k + count_by (λ h. h.1.koid == k) m
   pub agrees : (k : ℕ) (o : Object) → get r.objects k ≡ Some o → Agrees (world_value ps r) k o.body
   pub in_jobs : (k : ℕ) (o : Object) → get r.objects k ≡ Some o → IsTrue (is_in_job r.objects o.body)
@@ -44,7 +44,7 @@ is_killed _ = false
 
 -- what statements have made, which kills no job; the handles m are given to a process that isn't there yet
 pub record IsMaking (processes : List Process) (m : Map Entry) (r : Objects) : Type 0 where
-  pub sound : IsSound processes m r
+  pub sound : AreSound processes m r
   -- each table names an object 1,024 times at most
   pub few : (k : ℕ) → handles_to (world_value processes r) k ≤ 1024 * length processes
   pub unwatched : IsUnwatched r

@@ -3,7 +3,7 @@ use Rattle.std.specs.Prelude.{ℕ, ◌≡◌, false, List, map, Some, if◌then�
 use Rattle.std.specs.Option.{option_map}
 use Rattle.zl_rights.specs.Settled.{settled}
 use Rattle.zl_rights.specs.Values.{Free, new_free}
-use Rattle.zl_code.specs.Common.{get, lives, Library, Next, World as WorldValue, Process as ProcessValue, next_for}
+use Rattle.zl_code.specs.Common.{get, lives, Library, Next, World, Process as ProcessValue, next_for}
 use Rattle.zl_code.specs.declared.history.TraceItem.{TraceItem}
 use Rattle.zl_code.specs.Own.{OwnWorld}
 use Rattle.zl_code.specs.OwnHistory.{tells_want}
@@ -25,13 +25,13 @@ abbrev pub FreeBy : List Process → (ℕ → Free) → Type 0
 FreeBy ps f = (k : ℕ) → get (map free_entry ps) k ≡ option_map (living f k) (get (map process_entry ps) k)
 
 -- the lab itself does this next, up to where processes wake, and leaves these values
-pub record IsOwnDone (lib : Library) (o : OwnWorld) (pid : ℕ) (n : Next) (x : TraceItem) (w2 : WorldValue) (after : List Process) : Type 0 where
+pub record IsOwnDone (lib : Library) (o : OwnWorld) (pid : ℕ) (n : Next) (x : TraceItem) (w2 : World) (after : List Process) : Type 0 where
   pub world : w2 ≡ settled (own_act lib o pid n).world
   pub item : x ≡ (own_act lib o pid n).item
   pub free : FreeBy after (own_act lib o pid n).free
 
 -- so it is of the process, unless memory was wanted
-abbrev pub DoesOwn : Library → OwnWorld → ℕ → TraceItem → WorldValue → List Process → Type 0
+abbrev pub DoesOwn : Library → OwnWorld → ℕ → TraceItem → World → List Process → Type 0
 DoesOwn lib o pid x w2 after = (q : ProcessValue) → get o.world.processes pid ≡ Some q → tells_want x ≡ false
     → IsOwnDone lib o pid (next_for lib q) x w2 after
 

@@ -16,7 +16,7 @@ use Rattle.zl_rights.specs.declared.policy.Condition.{Condition}
 use Rattle.zl_rights.specs.declared.policy.Condition.TheVariants as condition
 use Rattle.zl_rights.specs.declared.status.Status.{Status}
 use Rattle.zl_rights.specs.declared.status.Status.TheVariants as status
-use Rattle.zl_objects.specs.Jobs.{action_of, job_at}
+use Rattle.zl_objects.specs.Jobs.{action_here, job_at}
 use Rattle.zl_objects.specs.Objects.{Objects, job_in}
 use Rattle.zl_objects.specs.declared.object.Object.{Object}
 use Rattle.zl_calls.specs.declared.policy.Verdict.{Verdict}
@@ -67,7 +67,7 @@ verdict_by decides None (Some c) = on_making (decides c)
 -- the same by the policy of the job in which the process is; without a job nothing ends
 abbrev pub verdict_in : Map Object → Option ℕ → Option Status → Option Condition → Option Verdict
 verdict_in objects None fault c = None
-verdict_in objects (Some job) fault c = verdict_by (action_of (job_at objects job)) fault c
+verdict_in objects (Some job) fault c = verdict_by (action_here (job_at objects job)) fault c
 
 -- how the policy of the process's job ends the request, if it does
 abbrev pub verdict_on : Map Entry → Map Object → (pid : ℕ) → Request → Option Verdict

@@ -43,7 +43,7 @@ pub record EndsCaller (Does : Parts → Parts → Type 0) (place : ℕ) (all : P
 
 -- what a call does that reaches other processes
 pub data Reaches (lib : Library) (place : ℕ) (caller : Process) (s : Site) (all : Parts) (o : Outcome) (all2 : Parts) : Type 0 where
-  creates : (job program : ℕ) → s.request ≡ process_create job program
+  creates_process : (job program : ℕ) → s.request ≡ process_create job program
       → IsAnsweredIn (told_by one_value) (ProcessCreateDoes lib place job program caller) s place all o all2 → Reaches lib place caller s all o all2
   starts : (process h word : ℕ) → s.request ≡ process_start process h word
       → IsAnsweredIn (told_by no_value) (ProcessStartDoes lib place process h word caller) s place all o all2 → Reaches lib place caller s all o all2

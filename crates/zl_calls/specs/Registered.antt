@@ -1,7 +1,7 @@
 -- How registered waits end and fire. No public clause cites this module.
 use Rattle.std.specs.Prelude.{ℕ, ◌≡◌, Bool, false, ◌&&◌, ◌==◌, not, List, Some, IsTrue}
 use Rattle.std.specs.List.{Contains, filter}
-use Rattle.zl_code.specs.Common.{Map, get, has_key, World as WorldValue}
+use Rattle.zl_code.specs.Common.{Map, get, has_key, World}
 use Rattle.zl_rights.specs.declared.entry.Entry.{Entry}
 use Rattle.zl_rights.specs.Settle.{is_made_by_handle}
 use Rattle.zl_rights.specs.Wakes.{fired}
@@ -17,11 +17,11 @@ use Rattle.zl_calls.specs.declared.process.Process.{Process}
 -- ---- which waits are left
 
 -- the handle of the wait is there, and so are its object and its port
-abbrev pub is_left : WorldValue → Wait → Bool
+abbrev pub is_left : World → Wait → Bool
 is_left w x = is_made_by_handle w x && (has_key w.objects x.object && has_key w.objects x.port)
 
 -- the world of a step that what isn't held has left: of the waits those are left whose handle and port are
-abbrev pub world_left : List Process → Objects → List ℕ → WorldValue
+abbrev pub world_left : List Process → Objects → List ℕ → World
 world_left processes objects blocked =
     record (world_blocked processes objects blocked) { waits = filter (is_left (world_value processes objects)) objects.waits }
 

@@ -12,7 +12,7 @@ use Rattle.zl_objects.specs.declared.awaited.Sleeper.{Sleeper}
 use Rattle.zl_objects.specs.Awaited.{KeepSleepers}
 use Rattle.zl_objects.specs.Calm.{is_due}
 use Rattle.zl_objects.specs.Objects.{Objects}
-use Rattle.zl_objects.specs.Ports.{changing_port, packets_in}
+use Rattle.zl_objects.specs.Ports.{changing_port, packets_found}
 use Rattle.zl_objects.specs.Signals.{signals_at}
 use Rattle.zl_port.specs.Packets.{without_front}
 use Rattle.zl_calls.specs.declared.process.State.TheVariants as state
@@ -20,7 +20,7 @@ use Rattle.zl_calls.specs.declared.process.Process.{Process}
 use Rattle.zl_calls.specs.World.{held, process_entry, state_value, world_blocked}
 use Rattle.zl_calls.specs.Consistent.{IsConsistent}
 use Rattle.zl_calls.specs.Blocked.{AreBlocked, AreOrdered, AreSought}
-use Rattle.zl_calls.specs.Blocking.{awaited_by}
+use Rattle.zl_calls.specs.Blocking.{awaited_found}
 use Rattle.zl_calls.specs.Woke.{HaveLeft}
 use Rattle.zl_calls.specs.declared.waking.Woke.{Woke}
 
@@ -33,7 +33,7 @@ seen_active signals mask = then_some (meets signals mask) (signals ∷ [])
 -- what the answer of a blocked process gives behind the status, if what it waits for is there
 abbrev pub given_awake : State → Objects → Option (List ℕ)
 given_awake (Blocked (SignalOf koid mask) destinations) r = seen_active (signals_at r.objects koid) mask
-given_awake (Blocked (PacketAt port) destinations) r = option_map packet_values (slice_get (packets_in (get r.objects port)) 0)
+given_awake (Blocked (PacketAt port) destinations) r = option_map packet_values (slice_get (packets_found (get r.objects port)) 0)
 given_awake _ r = None
 
 -- the registers of its answer, the status first
@@ -74,8 +74,8 @@ HaveCounters ps = (k : ℕ) (p : ProcessValue) → get (map process_entry ps) k 
 
 -- the process woke, which was blocked on what it was listed for; or it wasn't, and nothing changed
 abbrev pub WakesSleeper : Sleeper → Bool → List Process → Objects → List Process → Objects → Type 0
-WakesSleeper s true ps r ps2 r2 = (awaited_by (get (map process_entry ps) s.pid) ≡ Some s.awaited) × WakesOne s.pid true ps r ps2 r2 × KeepSleepers r r2
-WakesSleeper s false ps r ps2 r2 = (awaited_by (get (map process_entry ps) s.pid) ≡ Some s.awaited → ⊥) × (ps2 ≡ ps) × (r2 ≡ r)
+WakesSleeper s true ps r ps2 r2 = (awaited_found (get (map process_entry ps) s.pid) ≡ Some s.awaited) × WakesOne s.pid true ps r ps2 r2 × KeepSleepers r r2
+WakesSleeper s false ps r ps2 r2 = (awaited_found (get (map process_entry ps) s.pid) ≡ Some s.awaited → ⊥) × (ps2 ≡ ps) × (r2 ≡ r)
 
 -- each blocked process had its turn, in the order of the list, and these woke; nobody is listed for whom what it waits for is there
 pub record Wakes (ps : List Process) (r : Objects) (blocked : List ℕ) (w : Woke) (ps2 : List Process) (r2 : Objects) (blocked2 : List ℕ) : Type 0 where

@@ -1,13 +1,13 @@
 -- What the definitions see of the world of this crate.
 use Rattle.std.specs.Prelude.{ℕ, ◌≡◌, ◌<◌, Bool, length, slice_get, slice_index, List, [], ◌∷◌, map, Option, Some, None, if◌then◌else◌}
 use Rattle.std.specs.Option.{option_map}
-use Rattle.zl_code.specs.Common.{Map, get, World as WorldValue, Process as ProcessValue, State as StateValue, Created, Ready, Blocked, Ended, Gone, is_ready, is_process, Library, site_of, Next, calls_at, next_for}
+use Rattle.zl_code.specs.Common.{Map, get, World, Process as ProcessValue, State as StateValue, Created, Ready, Blocked, Ended, Gone, is_ready, is_process, Library, site_of, Next, calls_at, next_for}
 use Rattle.zl_code.specs.declared.history.CallName.{CallName}
 use Rattle.zl_code.specs.declared.history.ProcState.{ProcState}
 use Rattle.zl_code.specs.declared.history.ProcState.TheVariants as seen
 use Rattle.zl_code.specs.declared.instr.CallInstr.{CallInstr}
 use Rattle.zl_rights.specs.World.{Awaited as AwaitedValue, SignalOf, PacketAt}
-use Rattle.zl_interp.specs.Common.{call_in}
+use Rattle.zl_interp.specs.Common.{call_here}
 use Rattle.zl_objects.specs.declared.awaited.Awaited.{Awaited}
 use Rattle.zl_objects.specs.declared.awaited.Awaited.TheVariants as awaits
 use Rattle.zl_calls.specs.declared.process.State.{State}
@@ -22,12 +22,12 @@ use Rattle.zl_objects.specs.Seen.{object_entry}
 -- the programs, the world in which they run, and by process the values that new handles get
 pub record Machine : Type 0 where
   pub programs : Library
-  pub world : WorldValue
+  pub world : World
   pub free : Map Free
 
 -- the world of the machine with these values
-abbrev pub own_of : Machine → OwnWorld
-own_of m = record { world = m.world; free = m.free }
+abbrev pub own_here : Machine → OwnWorld
+own_here m = record { world = m.world; free = m.free }
 
 -- ---- views
 
@@ -90,7 +90,7 @@ abbrev pub process_entry : Process → ℕ × ProcessValue
 process_entry p = (p.pid, process_value p)
 
 -- the world of these processes and objects, where nothing blocks or waits
-abbrev pub world_value : List Process → Objects → WorldValue
+abbrev pub world_value : List Process → Objects → World
 world_value processes objects = record {
   processes = map process_entry processes;
   objects = map object_entry objects.objects;
@@ -101,7 +101,7 @@ world_value processes objects = record {
 }
 
 -- the same with the registered waits, where the processes with these koids block, the longest blocked first
-abbrev pub world_blocked : List Process → Objects → List ℕ → WorldValue
+abbrev pub world_blocked : List Process → Objects → List ℕ → World
 world_blocked processes objects blocked =
     record (world_value processes objects) { waits = objects.waits; waits_made = objects.waits_made; blocked = blocked }
 
@@ -140,7 +140,7 @@ CallsNext lib p call = stands_next lib p ≡ calls_at call.name (site_of call p.
 -- the call at which the process that was looked up is; just a ready one is at a call
 abbrev pub call_of : Library → Option ProcessValue → Option CallName
 call_of lib None = None
-call_of lib (Some p) = if is_ready p.state then call_in (next_for lib p) else None
+call_of lib (Some p) = if is_ready p.state then call_here (next_for lib p) else None
 
 -- the call at which the process is, if it is ready and at one
 abbrev pub call_for : Machine → ℕ → Option CallName

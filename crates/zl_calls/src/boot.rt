@@ -13,7 +13,7 @@ ghost use Rattle.zl_code.specs.Limits.{most_word};
 ghost use Rattle.zl_code.specs.OwnBoot.{own_boot};
 ghost use Rattle.zl_calls.specs.Leaving.{left_beside};
 ghost use Rattle.zl_calls.specs.Consistent.{IsConsistent};
-ghost use Rattle.zl_objects.specs.Objects.{is_end_body, kind_at, root_alone, with_new};
+ghost use Rattle.zl_objects.specs.Objects.{is_end_body, kind_here, root_alone, with_new};
 ghost use Rattle.zl_objects.specs.Ports.{reserved_of};
 ghost use Rattle.zl_interp.specs.Program.{program_value};
 ghost use Rattle.zl_calls.specs.Making.{IsMaking, IsUnwatched};
@@ -300,7 +300,7 @@ impl Made {
     /// Whether each handle names an object that is there.
     fn knows(&self, handles: &[Grant]) -> bool
         ensures { result
-            ≡ list_all (λ g. is_some (kind_at self.now.objects.objects g.koid)) handles.now }
+            ≡ list_all (λ g. is_some (kind_here self.now.objects.objects g.koid)) handles.now }
     {
         handles
             .iter()

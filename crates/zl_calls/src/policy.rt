@@ -9,7 +9,7 @@ ghost use Rattle.zl_code.specs.Instructions.{field_of, kinds_of};
 ghost use Rattle.zl_code.specs.Limits.{most_registers};
 ghost use Rattle.zl_code.specs.Refusals.{condition_of};
 ghost use Rattle.zl_code.specs.Request.{site_of};
-ghost use Rattle.zl_objects.specs.Jobs.{action_of, job_at};
+ghost use Rattle.zl_objects.specs.Jobs.{action_here, job_at};
 ghost use Rattle.zl_calls.specs.FieldFaults.{field_fault, fields_fault, last_fault};
 ghost use Rattle.zl_calls.specs.Policed.{IsDenied, Policed, on_fault, verdict_by, verdict_on};
 ghost use Rattle.zl_calls.specs.Sure.{IsUnpoliced};
@@ -104,7 +104,7 @@ fn judge<const TESTED: bool>(
 /// How a call ends that makes an object under this condition, if it makes one of which a policy
 /// decides.
 fn on_making(objects: &Objects, job: Koid, condition: Option<Condition>) -> Option<Verdict>
-    ensures { result ≡ verdict_by (action_of (job_at objects.now.objects job)) None condition }
+    ensures { result ≡ verdict_by (action_here (job_at objects.now.objects job)) None condition }
 {
     match objects.action(job, condition?) {
         Action::Allow => None,
@@ -116,7 +116,7 @@ fn on_making(objects: &Objects, job: Koid, condition: Option<Condition>) -> Opti
 /// How a call ends with this fault of a handle operand: in any other way than it would without a
 /// policy just where the job kills for it.
 fn on_fault(objects: &Objects, job: Koid, fault: Status) -> Option<Verdict>
-    ensures { result ≡ on_fault (action_of (job_at objects.now.objects job)) fault }
+    ensures { result ≡ on_fault (action_here (job_at objects.now.objects job)) fault }
 {
     let condition = match fault {
         Status::BadHandle => Condition::BadHandle,

@@ -20,7 +20,7 @@ ghost use Rattle.zl_calls.specs.Sure.{IsSureIfChecked, is_checked};
 ghost use Rattle.zl_code.specs.Sound.{IsSound};
 ghost use Rattle.zl_verify.specs.Covered.{IsCovered, IsVerified};
 ghost use Rattle.zl_calls.specs.World.{process_entry, stands_next, CallsNext};
-ghost use Rattle.zl_interp.specs.Common.{call_in};
+ghost use Rattle.zl_interp.specs.Common.{call_here};
 
 pub mod leaving;
 pub mod taken;
@@ -48,7 +48,7 @@ fn call_there(library: &Library, process: &Process) -> Option<(CallInstr, bool)>
     ensures found { IfSome result (λ found. CallsNext library.now process.now found.0) }
     ensures checked { IfSome result (λ found.
         found.1 ≡ is_checked (slice_get library.now process.now.program)) }
-    ensures missing { IfNone result (call_in (stands_next library.now process.now) ≡ None) }
+    ensures missing { IfNone result (call_here (stands_next library.now process.now) ≡ None) }
     ensures within { OnSome result (process.now.cpu.counter < 4096) }
 {
     let program = library.get(process.program)?;
@@ -58,7 +58,7 @@ fn call_there(library: &Library, process: &Process) -> Option<(CallInstr, bool)>
 
 /// The name of the call that stands next, if one does.
 pub fn next_name(library: &Library, process: &Process) -> Option<CallName>
-    ensures { result ≡ call_in (stands_next library.now process.now) }
+    ensures { result ≡ call_here (stands_next library.now process.now) }
 {
     let program = library.get(process.program)?;
     let Some(call) = call_at(program, &process.cpu) else {
@@ -175,7 +175,7 @@ fn call_next(
         NotesNextChild library.now caller done.0 taken.new)) }
     ensures room { KeepsRoom processes.old blocked.old processes.new blocked.new }
     ensures missing { IfNone result (AtPlace processes.old place (λ caller.
-        call_in (stands_next library.now caller) ≡ None)) }
+        call_here (stands_next library.now caller) ≡ None)) }
     ensures same_processes { IfNone result (processes.new.list.items ≡ processes.old.list.items) }
     ensures same_objects { IfNone result (objects.new ≡ objects.old) }
     ensures same_blocked { IfNone result (blocked.new.items ≡ blocked.old.items) }
@@ -217,7 +217,7 @@ fn note_taken(taken: &mut Taken, process: &Process, objects: &Objects, call: &Ca
 /// of no checked program, nothing changes.
 #[inline(always)]
 fn run_next(library: &Library, process: &mut Process) -> Option<()>
-    requires no_call { call_in (stands_next library.now process.old) ≡ None }
+    requires no_call { call_here (stands_next library.now process.old) ≡ None }
     requires sure { is_checked (slice_get library.now process.old.program) ≡ true
         → stands_next library.now process.old ≢ IsStuck }
     ensures runs { OnSome result (stands_next library.now process.old ≡ Moves process.new.cpu) }

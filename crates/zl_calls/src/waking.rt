@@ -10,11 +10,11 @@ ghost use Rattle.zl_rights.specs.Wakes.{packet_values, woken};
 ghost use Rattle.zl_objects.specs.declared.awaited.Awaited.{Awaited as AwaitedValue};
 ghost use Rattle.zl_objects.specs.Awaited.{KeepSleepers};
 ghost use Rattle.zl_objects.specs.Calm.{is_due};
-ghost use Rattle.zl_objects.specs.Ports.{changing_port, packets_in};
+ghost use Rattle.zl_objects.specs.Ports.{changing_port, packets_found};
 ghost use Rattle.zl_objects.specs.Signals.{signals_at};
 ghost use Rattle.zl_port.specs.Packets.{without_front};
 ghost use Rattle.zl_calls.specs.Blocked.{AreBlocked, AreOrdered, AreSought, StandInOrder};
-ghost use Rattle.zl_calls.specs.Blocking.{FallsAsleep, awaited_by, tells_asleep, then_blocked};
+ghost use Rattle.zl_calls.specs.Blocking.{FallsAsleep, awaited_found, tells_asleep, then_blocked};
 ghost use Rattle.zl_calls.specs.Consistent.{IsConsistent};
 ghost use Rattle.zl_calls.specs.Waking.{Wakes, WakesOne, WakesSleeper, HaveCounters, awake, awake_in, given_awake, seen_active, without_taken};
 ghost use Rattle.zl_calls.specs.Woke.{HaveLeft, and_one};
@@ -82,7 +82,7 @@ fn tells_asleep(item: &TraceItem) -> bool
 
 /// What the process waits for, if it is blocked.
 fn awaited_by(processes: &Processes, pid: Pid) -> Option<Awaited>
-    ensures { result ≡ awaited_by (get (map process_entry processes.now.list.items) pid) }
+    ensures { result ≡ awaited_found (get (map process_entry processes.now.list.items) pid) }
 {
     let place = processes.place_of(pid)?;
     processes.list[place].awaited()
@@ -211,7 +211,7 @@ fn wake_one(processes: &mut Processes, objects: &mut Objects, pid: Pid) -> bool
     ensures wakes { WakesOne pid result
         processes.old.list.items objects.old processes.new.list.items objects.new }
     ensures due { (a : AwaitedValue)
-        → awaited_by (get (map process_entry processes.old.list.items) pid) ≡ Some a
+        → awaited_found (get (map process_entry processes.old.list.items) pid) ≡ Some a
         → result ≡ is_due objects.old.objects a }
     ensures asleep { KeepSleepers objects.old objects.new }
 {
@@ -276,9 +276,9 @@ fn wake_by_packet(
     registers: Registers,
 ) -> bool
     requires { process.old.cpu.counter < 2 ^ 32 }
-    ensures woke { result ≡ is_some (slice_get (packets_in (get objects.old.objects port)) 0) }
+    ensures woke { result ≡ is_some (slice_get (packets_found (get objects.old.objects port)) 0) }
     ensures process { process.new ≡ awake_in (packet_registers registers)
-        (option_map packet_values (slice_get (packets_in (get objects.old.objects port)) 0))
+        (option_map packet_values (slice_get (packets_found (get objects.old.objects port)) 0))
         process.old }
     ensures objects { objects.new ≡ changing_port objects.old port without_front }
 {

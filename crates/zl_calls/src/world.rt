@@ -9,7 +9,7 @@ ghost use Rattle.zl_code.specs.OwnBoot.{own_boot};
 ghost use Rattle.zl_code.specs.Headline.{IsSizedBoot};
 ghost use Rattle.zl_code.specs.Starting.{program_of};
 ghost use Rattle.zl_code.specs.Steps.{Runs};
-ghost use Rattle.zl_calls.specs.World.{call_for, state_in, is_ready_in, own_of};
+ghost use Rattle.zl_calls.specs.World.{call_for, state_in, is_ready_in, own_here};
 ghost use Rattle.zl_calls.specs.Makes.{IsReached};
 ghost use Rattle.zl_calls.specs.Steps.{Performs, StepsTo, local_item, takes_memory};
 ghost use Rattle.zl_calls.specs.Own.{StepsOwn};
@@ -97,7 +97,7 @@ impl World {
         ensures sized { IfOk result
             (λ world. IsSizedBoot library boot.now.statements.items world.world) }
         ensures own { IfOk result
-            (λ world. own_of world ≡ own_boot library boot.now.statements.items) }
+            (λ world. own_here world ≡ own_boot library boot.now.statements.items) }
         ensures programs { IfOk result (λ world. world.programs ≡ library) }
         ensures limit { OnOk result (boot.now.limit ≤ MOST_ITEMS) }
         ensures err { IfErr result (λ fault. fault.cause ≢ NoMemory
@@ -217,8 +217,8 @@ impl World {
     #[inline(always)]
     pub fn step(&mut self, pid: Pid) -> Option<(TraceItem, Woke)>
         ensures ran { IfSome result (λ did. StepsAndTells self.old pid self.new did.0 did.1) }
-        ensures own { IfSome result (λ did. StepsOwn self.old.programs (own_of self.old) pid
-            did.0 (own_of self.new)) }
+        ensures own { IfSome result (λ did. StepsOwn self.old.programs (own_here self.old) pid
+            did.0 (own_here self.new)) }
         ensures not_ready { IfNone result (is_ready_in self.old pid ≡ false) }
         ensures unchanged { IfNone result (self.new ≡ self.old) }
     {

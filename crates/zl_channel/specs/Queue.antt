@@ -14,8 +14,8 @@ abbrev pub MOST_HANDLES : ℕ
 MOST_HANDLES = 64
 
 -- the message has more bytes or more handles than a message may have
-abbrev pub is_too_large : Message → Bool
-is_too_large m = nat_lt MOST_BYTES (length m.bytes) || nat_lt MOST_HANDLES (length m.handles)
+abbrev pub is_too_large_here : Message → Bool
+is_too_large_here m = nat_lt MOST_BYTES (length m.bytes) || nat_lt MOST_HANDLES (length m.handles)
 
 -- how many bytes and how many handles the first message has
 abbrev pub front_sizes : List Message → Option (ℕ × ℕ)

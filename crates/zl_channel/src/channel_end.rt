@@ -1,5 +1,5 @@
 ghost use Rattle.std.specs.Prelude.{◌≡◌, ◌↔◌, ◌++◌, ◌∷◌, [], IsTrue, OnOk, OnErr, IfErr, IfSome, IfNone, Err, All, drop, slice_get};
-ghost use Rattle.zl_channel.specs.Queue.{Drains, front_handles, front_sizes, is_too_large, refused_message};
+ghost use Rattle.zl_channel.specs.Queue.{Drains, front_handles, front_sizes, is_too_large_here, refused_message};
 
 use crate::message::Message;
 use std::alloc::Global;
@@ -69,7 +69,7 @@ impl ChannelEnd {
         ensures unchanged { OnErr result (self.new ≡ self.old) }
         ensures handed_back { IfErr result (λ fault. refused_message fault ≡ message) }
         ensures out_of_range { (result ≡ Err (PushFault.OutOfRange message))
-            ↔ IsTrue (is_too_large message) }
+            ↔ IsTrue (is_too_large_here message) }
     {
         if message.bytes.len() > ChannelEnd::MOST_BYTES
             || message.handles.len() > ChannelEnd::MOST_HANDLES

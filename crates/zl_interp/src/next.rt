@@ -7,7 +7,7 @@ ghost use Rattle.zl_code.specs.Limits.{most_instructions};
 ghost use Rattle.zl_code.specs.Local.{goes_to, local_effect};
 ghost use Rattle.zl_code.specs.Steps.{IsStuck, Moves, moves, next_at, next_of};
 ghost use Rattle.zl_interp.specs.Bursts.{stop_at};
-ghost use Rattle.zl_interp.specs.Next.{IsStuckOrCalls, StandsNext, call_in};
+ghost use Rattle.zl_interp.specs.Next.{IsStuckOrCalls, StandsNext, call_here};
 ghost use Rattle.zl_interp.specs.Program.{program_value};
 
 use crate::bursts::Stop;
@@ -23,7 +23,7 @@ use zl_code::{CallInstr, Ending, Instr, LocalInstr};
 pub fn call_at(program: &Program, cpu: &Cpu) -> Option<CallInstr>
     ensures found { IfSome result (StandsNext (program_value program.now).image cpu.now) }
     ensures missing { IfNone result
-        (call_in (next_at (program_value program.now).image cpu.now) ≡ None) }
+        (call_here (next_at (program_value program.now).image cpu.now) ≡ None) }
     ensures within { OnSome result (cpu.now.counter < most_instructions) }
 {
     let call = program.image().call_at(cpu.counter())?;

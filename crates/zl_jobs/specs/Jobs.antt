@@ -26,17 +26,17 @@ abbrev pub MOST_LEVELS : ℕ
 MOST_LEVELS = 16
 
 -- a job in this one would stand too deep
-abbrev pub is_deepest : Job → Bool
-is_deepest j = nat_le MOST_LEVELS j.depth
+abbrev pub is_deepest_here : Job → Bool
+is_deepest_here j = nat_le MOST_LEVELS j.depth
 
 -- a new job in this one, which has the koid k, with its policy
-abbrev pub job_within : ℕ → Job → Job
-job_within k j = record { parent = k; depth = j.depth + 1; policy = j.policy; killed = false }
+abbrev pub job_within_here : ℕ → Job → Job
+job_within_here k j = record { parent = k; depth = j.depth + 1; policy = j.policy; killed = false }
 
 -- a new job in this one, which has the koid k, or why there may be none
 abbrev pub new_within : ℕ → Job → Result Job JobFault
 new_within k j =
-    if is_deepest j then Err fault.OutOfRange else (if j.killed then Err fault.BadState else Ok (job_within k j))
+    if is_deepest_here j then Err fault.OutOfRange else (if j.killed then Err fault.BadState else Ok (job_within_here k j))
 
 -- ---- changes
 

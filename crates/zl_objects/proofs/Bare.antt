@@ -1,7 +1,7 @@
 -- Objects that are the same but for waits and reserved places: what doesn't see these.
 use Rattle.zl_objects.proofs.Common.{Agrees, AreKeptBut, AreSameButWaits, Body, Bool, List, Map, None, Object, Option, Some, World, [], ap, arith, bare}
-use Rattle.zl_objects.proofs.Common.{below_all, body_value, cond, count_by, each, get, get-each, has_key, has_living_child, is_child, is_in_job, is_job_at}
-use Rattle.zl_objects.proofs.Common.{is_job_body, is_job_in, is_kept, is_lt, is_named, is_some, is_sorted, length, list_any, map, nat_cmp, nat_lt, none-some}
+use Rattle.zl_objects.proofs.Common.{below_all, body_value, cond, count_by, each, get, get-each, has_key, has_living_child_here, is_child, is_in_job, is_job_at}
+use Rattle.zl_objects.proofs.Common.{is_job_here, is_job_in, is_kept, is_lt, is_named, is_some, is_sorted, length, list_any, map, nat_cmp, nat_lt, none-some}
 use Rattle.zl_objects.proofs.Common.{object_entry, option_map, refl, same_Some, stays_alone, subst, suc, sum_by-cons, sym, unreserved, ℕ, ◌&&◌, ◌||◌, ◌∙◌, ◌∷◌}
 use Rattle.zl_objects.proofs.Common.{◌≡◌}
 use Rattle.zl_rights.proofs.MapTests.{list_any-each}
@@ -70,8 +70,8 @@ any_bare : (test : Body → Bool) → ((b : Body) → test (unreserved b) ≡ te
     → list_any (λ e. test e.1.body) (all_bare m) ≡ list_any (λ e. test e.1.body) m
 any_bare test same m = list_any-each (λ e. test e.1.body) (λ j. bare) (λ j o. same o.body) m
 
-child_bare : (m : Map Object) (k : ℕ) → has_living_child (all_bare m) k ≡ has_living_child m k
-unfolding has_living_child
+child_bare : (m : Map Object) (k : ℕ) → has_living_child_here (all_bare m) k ≡ has_living_child_here m k
+unfolding has_living_child_here
 child_bare m k = any_bare (is_child k) by_body m
   where
     by_body : (b : Body) → is_child k (unreserved b) ≡ is_child k b
@@ -88,7 +88,7 @@ has_bare m k = ap (λ (o : Option Object). is_some o) (get-each m (λ j. bare) k
 job_bare : (m : Map Object) (k : ℕ) → is_job_at (all_bare m) k ≡ is_job_at m k
 job_bare m k = ap is_job_in (get-each m (λ j. bare) k) ∙ by_object (get m k)
   where
-    by_body : (b : Body) → is_job_body (unreserved b) ≡ is_job_body b
+    by_body : (b : Body) → is_job_here (unreserved b) ≡ is_job_here b
     by_body (body.Job own) = refl
     by_body _ = refl
 
@@ -132,7 +132,7 @@ module _ (m m2 : Map Object) (same : AreSameButWaits m m2) where
   alone_same k b c is = by_body b ∙ of_body (stays_alone m k) (λ packets reserved. refl) b c is
     where
       by_body : (b : Body) → stays_alone m2 k b ≡ stays_alone m k b
-      by_body (body.Job own) = carried (λ n. has_living_child n k) (λ n. child_bare n k)
+      by_body (body.Job own) = carried (λ n. has_living_child_here n k) (λ n. child_bare n k)
       by_body _ = refl
 
   pub in_job_same : (b c : Body) → unreserved b ≡ unreserved c → is_in_job m2 b ≡ is_in_job m c

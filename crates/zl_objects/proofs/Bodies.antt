@@ -1,8 +1,9 @@
 -- What keeps objects, once one of them was changed or has gone.
 use Rattle.zl_objects.proofs.Common.{Body, Bool, IsTrue, Map, None, Object, Option, Some, [], ap, cases_Bool, eqb-true, false, false≢true, get, get-update}
-use Rattle.zl_objects.proofs.Common.{get-without, has_key, has_living_child, if◌then◌else◌, inl, inr, is_above, is_child, is_in_job, is_job_at, is_job_body}
-use Rattle.zl_objects.proofs.Common.{is_job_in, is_some, is_sorted, keeper_of, list_any, nat_cmp, none-some, option_map, or_cases, or_left, or_right, refl}
-use Rattle.zl_objects.proofs.Common.{same_Some, sorted_parts, stays_alone, sym, true, update, without, without_lower, ℕ, ◌==◌, ◌||◌, ◌∙◌, ◌∷◌, ◌≡◌}
+use Rattle.zl_objects.proofs.Common.{get-without, has_key, has_living_child_here, if◌then◌else◌, inl, inr, is_above, is_child, is_in_job, is_job_at}
+use Rattle.zl_objects.proofs.Common.{is_job_here, is_job_in, is_some, is_sorted, keeper_of, list_any, nat_cmp, none-some, option_map, or_cases, or_left}
+use Rattle.zl_objects.proofs.Common.{or_right, refl, same_Some, sorted_parts, stays_alone, sym, true, update, without, without_lower, ℕ, ◌==◌, ◌||◌, ◌∙◌, ◌∷◌}
+use Rattle.zl_objects.proofs.Common.{◌≡◌}
 use Rattle.zl_objects.specs.declared.object.Body.TheVariants as body
 use Rattle.zl_objects.proofs.Places.{seen_updated}
 
@@ -30,8 +31,8 @@ changed f m k j q at = by_object (get m j) refl (sym (get-update m k f j) ∙ at
 module _ (f : Object → Object) where
   -- where it stays as much a child, jobs have their living children still
   child_changed : ((j : ℕ) (o : Object) → is_child j (f o).body ≡ is_child j o.body) → (m : Map Object) (k job : ℕ)
-      → has_living_child (update m k f) job ≡ has_living_child m job
-  unfolding update has_living_child
+      → has_living_child_here (update m k f) job ≡ has_living_child_here m job
+  unfolding update has_living_child_here
   child_changed same [] k job = refl
   child_changed same (e ∷ m) k job =
       elim (cases_Bool (e.0 == k)) as (λ _. list_any (λ x. is_child job x.1.body) (update (e ∷ m) k f) ≡ list_any (λ x. is_child job x.1.body) (e ∷ m)) [
@@ -45,7 +46,7 @@ module _ (f : Object → Object) where
   alone_changed same m k j _ = refl
 
   -- where it stays a job, or none, the jobs are the same
-  pub job_changed : ((o : Object) → is_job_body (f o).body ≡ is_job_body o.body) → (m : Map Object) (k j : ℕ) → is_job_at (update m k f) j ≡ is_job_at m j
+  pub job_changed : ((o : Object) → is_job_here (f o).body ≡ is_job_here o.body) → (m : Map Object) (k j : ℕ) → is_job_at (update m k f) j ≡ is_job_at m j
   job_changed same = seen_updated is_job_in f same
 
 -- its body stays
@@ -87,8 +88,8 @@ any_without_at {X} test (e ∷ m) k x sorted there out = elim (cases_Bool (e.0 =
 module _ (m : Map Object) (sorted : IsTrue (is_sorted nat_cmp m)) (k : ℕ) (o : Object) (there : get m k ≡ Some o) (j : ℕ)
     (apart : is_child j o.body ≡ false) where
   -- another job has its living children
-  child_left : has_living_child (without m k) j ≡ has_living_child m j
-  unfolding has_living_child
+  child_left : has_living_child_here (without m k) j ≡ has_living_child_here m j
+  unfolding has_living_child_here
   child_left = any_without_at (λ e. is_child j e.1.body) m k o sorted there apart
 
   pub alone_left : (b : Body) → stays_alone (without m k) j b ≡ stays_alone m j b
@@ -124,4 +125,4 @@ module _ (f : Object → Object) (same : (o : Object) → (f o).body ≡ o.body)
       ∙ elim (k == j) as (λ b. (if b then f c.before else c.before).body ≡ c.before.body) [ true ↦ same c.before | false ↦ refl ]
 
   pub in_job_updated : (m : Map Object) (k : ℕ) (b : Body) → is_in_job (update m k f) b ≡ is_in_job m b
-  in_job_updated m k b = same_in_job m (update m k f) (job_changed f (λ o. ap is_job_body (same o)) m k) b
+  in_job_updated m k b = same_in_job m (update m k f) (job_changed f (λ o. ap is_job_here (same o)) m k) b

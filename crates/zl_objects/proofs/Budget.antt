@@ -2,10 +2,10 @@
 use Rattle.zl_objects.proofs.Common.{AreKeptBut, AreSameButWaits, Entry, IsTrue, LetsGo, List, Map, Message, None, Object, Option, Some, Thins, ap}
 use Rattle.zl_objects.proofs.Common.{append_assoc, arith, budget, cases_Bool, cond, count_by, drop, ending_waits, eq-eqb, eqb-true, false, false≢true, filter}
 use Rattle.zl_objects.proofs.Common.{flat_map-cons, get, get_or, goes, has_key, held_once_less, if◌then◌else◌, inl, inr, is_child, is_kept, is_koid, is_last}
-use Rattle.zl_objects.proofs.Common.{is_named, is_some, is_sorted-update, is_unkept, keeper_of, koids_of, left_at, length, length-append, let_go, list_any}
-use Rattle.zl_objects.proofs.Common.{map-append, named_in, nat_lt, nat_tests, none-some, option_to_list, or_cases, or_left, or_parts, or_right, queue_of, refl}
-use Rattle.zl_objects.proofs.Common.{same_Some, slice_get, sorted_without, stays_alone, sym, take, take_more, true, unkept_at, update, waits_end, without, ℕ}
-use Rattle.zl_objects.proofs.Common.{◌++◌, ◌+◌, ◌<◌, ◌==◌, ◌||◌, ◌∙◌, ◌∷◌, ◌≡◌, ◌≤◌, ◌⊎◌, []}
+use Rattle.zl_objects.proofs.Common.{is_named, is_some, is_sorted-update, is_unkept, keeper_of, koids_in, left_at, length, length-append, let_go, list_any}
+use Rattle.zl_objects.proofs.Common.{map-append, named_in, nat_lt, nat_tests, none-some, option_to_list, or_cases, or_left, or_parts, or_right, queue_held}
+use Rattle.zl_objects.proofs.Common.{refl, same_Some, slice_get, sorted_without, stays_alone, sym, take, take_more, true, unkept_at, update, waits_end, without}
+use Rattle.zl_objects.proofs.Common.{ℕ, ◌++◌, ◌+◌, ◌<◌, ◌==◌, ◌||◌, ◌∙◌, ◌∷◌, ◌≡◌, ◌≤◌, ◌⊎◌, []}
 use Rattle.zl_objects.specs.declared.object.Body.TheVariants as body
 use Rattle.zl_objects.proofs.Bare.{has_same, length_same, named_same, still_kept}
 use Rattle.zl_objects.proofs.Ending.{ending_bare, ending_gone, ending_places, ending_thins}
@@ -200,7 +200,7 @@ module _ (m : Map Object) (d : List ℕ) (k : ℕ) where
 
   -- nothing keeps it, the waits that end with it have ended, and the job was noted of which it was a living child
   pub unkept_went : (o : Object) (m2 : Map Object) (d2 : List ℕ) → get m k ≡ Some o → is_kept m k o ≡ false → length (without m k) + 1 ≡ length m
-      → LetsGo (named_in (queue_of o.body)) (ending_waits k o (without m k)) (d ++ option_to_list (keeper_of o.body)) m2 d2 → LetsGo [] m (d ++ k ∷ []) m2 d2
+      → LetsGo (named_in (queue_held o.body)) (ending_waits k o (without m k)) (d ++ option_to_list (keeper_of o.body)) m2 d2 → LetsGo [] m (d ++ k ∷ []) m2 d2
   unfolding budget
   unkept_went o m2 d2 there unkept once queue = record {
     cheap = omega (
@@ -217,7 +217,7 @@ module _ (m : Map Object) (d : List ℕ) (k : ℕ) where
       noted = λ j q at loose. by_child others old j q (found_left m k j q at) loose (cases_Bool (is_child j o.body));
     }));
     leads =
-        λ rest m3 tail. goes k o rest m m3 there unkept (waits_end (named_in (queue_of o.body) ++ rest) (without m k) mid m3 same (queue.leads rest m3 tail));
+        λ rest m3 tail. goes k o rest m m3 there unkept (waits_end (named_in (queue_held o.body) ++ rest) (without m k) mid m3 same (queue.leads rest m3 tail));
     places = λ have. queue.places (ending_places m k o there once have);
     thins = thin_then m mid m2 (λ j q at. ending_thins m k o j q (ending_gone m k o (λ n is. has_same (without m k) n is k)) at) queue.thins;
   }
@@ -335,18 +335,18 @@ module _ (m : Map Object) (k : ℕ) where
 
 -- ---- handles one after another
 
-pub handle_went : (es : List Entry) (i : ℕ) (e : Entry) → i < length es → (m m2 m3 : Map Object) (d d2 d3 : List ℕ) → LetsGo (koids_of (take i es)) m d m2 d2
-    → LetsGo ((get_or es i e).koid ∷ []) m2 d2 m3 d3 → LetsGo (koids_of (take (i + 1) es)) m d m3 d3
+pub handle_went : (es : List Entry) (i : ℕ) (e : Entry) → i < length es → (m m2 m3 : Map Object) (d d2 d3 : List ℕ) → LetsGo (koids_in (take i es)) m d m2 d2
+    → LetsGo ((get_or es i e).koid ∷ []) m2 d2 m3 d3 → LetsGo (koids_in (take (i + 1) es)) m d m3 d3
 handle_went es i e within m m2 m3 d d2 d3 before last =
     rw (take_more es i e within, map-append (λ (x : Entry). x.koid) (take i es) (get_or es i e ∷ []))
-    (both_went (koids_of (take i es)) ((get_or es i e).koid ∷ []) m m2 m3 d d2 d3 before last)
+    (both_went (koids_in (take i es)) ((get_or es i e).koid ∷ []) m m2 m3 d d2 d3 before last)
 
 -- the first message of a queue, and then the others
 pub message_went : (q q2 : List Message) (first : Message) (es : List Entry) → slice_get q 0 ≡ Some first → q2 ≡ drop 1 q → es ≡ first.handles
-    → (m m2 m3 : Map Object) (d d2 d3 : List ℕ) → LetsGo (koids_of es) m d m2 d2 → LetsGo (named_in q2) m2 d2 m3 d3 → LetsGo (named_in q) m d m3 d3
+    → (m m2 m3 : Map Object) (d d2 d3 : List ℕ) → LetsGo (koids_in es) m d m2 d2 → LetsGo (named_in q2) m2 d2 m3 d3 → LetsGo (named_in q) m d m3 d3
 message_went [] q2 first es there rest handles m m2 m3 d d2 d3 front behind = absurd (none-some first there)
 message_went (x ∷ q) q2 first es there rest handles m m2 m3 d d2 d3 front behind =
     let same : x ≡ first = same_Some x first there in
     let is : es ≡ x.handles = handles ∙ ap (λ (y : Message). y.handles) (sym same) in
     let left : q2 ≡ q = rest in
-    rw (flat_map-cons (λ (y : Message). koids_of y.handles) x q, ← is, ← left) (both_went (koids_of es) (named_in q2) m m2 m3 d d2 d3 front behind)
+    rw (flat_map-cons (λ (y : Message). koids_in y.handles) x q, ← is, ← left) (both_went (koids_in es) (named_in q2) m m2 m3 d d2 d3 front behind)

@@ -1,9 +1,9 @@
 -- What comes on at the objects when one of them is written, and that nothing is due at an object that isn't marked.
 use Rattle.zl_objects.proofs.Common.{All-weaker, Awaited, Body, Bool, IsAtRest, IsCalm, IsTrue, List, Map, NO_JOBS, NO_PROCESSES, None, NoneHolds, Object}
 use Rattle.zl_objects.proofs.Common.{Option, Sleeper, Some, TERMINATED, Watch, [], above_of, ap, arith, bit_and, bit_or, cases_Bool, eqb-true, false}
-use Rattle.zl_objects.proofs.Common.{false≢true, get, has_job_below, has_key-update, has_packet, has_process_below, holds, implied, inl, inr, is_due, is_empty}
-use Rattle.zl_objects.proofs.Common.{is_given, is_job_below, is_process_below, is_watched, koid_of, list_any, max, meets, min, not, peer_of, refl, signal_if}
-use Rattle.zl_objects.proofs.Common.{signals_at, signals_in, sym, true, update, ℕ, ◌==◌, ◌||◌, ◌∙◌, ◌∷◌, ◌≡◌, ◌≤◌, ◌⊎◌}
+use Rattle.zl_objects.proofs.Common.{false≢true, get, has_job_below, has_key-update, has_packet, has_process_below, implied_here, inl, inr, is_due, is_empty}
+use Rattle.zl_objects.proofs.Common.{is_given, is_job_below_here, is_process_below, is_watched, koid_of, list_any, max, meets, min, not, peer_of, refl}
+use Rattle.zl_objects.proofs.Common.{signal_if, signals_at, signals_in, sym, true, update, watch_holds, ℕ, ◌==◌, ◌||◌, ◌∙◌, ◌∷◌, ◌≡◌, ◌≤◌, ◌⊎◌}
 use Rattle.std.specs.Int.{bit_at}
 use Rattle.std.proofs.lemmas.Nat.{and_le_l, le_or_l, le_or_r}
 use Rattle.std.proofs.lemmas.Nat.Bits.{same_from_bits, bit_at_and, bit_at_or}
@@ -72,12 +72,12 @@ none_given (awaits.PacketAt k) = refl
 -- ---- waits
 
 -- where no signal comes on, no wait does
-pub none_hold : (s s2 : ℕ) → IsFewer s2 s → (ws : List Watch) → list_any (holds s) ws ≡ false → list_any (holds s2) ws ≡ false
+pub none_hold : (s s2 : ℕ) → IsFewer s2 s → (ws : List Watch) → list_any (watch_holds s) ws ≡ false → list_any (watch_holds s2) ws ≡ false
 none_hold s s2 fewer [] h = refl
-none_hold s s2 fewer (x ∷ ws) h = by_test (holds s x) refl h (λ rest. none_hold s s2 fewer ws rest)
+none_hold s s2 fewer (x ∷ ws) h = by_test (watch_holds s x) refl h (λ rest. none_hold s s2 fewer ws rest)
   where
-    by_test : (b : Bool) → holds s x ≡ b → (b || list_any (holds s) ws) ≡ false
-        → (list_any (holds s) ws ≡ false → list_any (holds s2) ws ≡ false) → (holds s2 x || list_any (holds s2) ws) ≡ false
+    by_test : (b : Bool) → watch_holds s x ≡ b → (b || list_any (watch_holds s) ws) ≡ false
+        → (list_any (watch_holds s) ws ≡ false → list_any (watch_holds s2) ws ≡ false) → (watch_holds s2 x || list_any (watch_holds s2) ws) ≡ false
     by_test true is h later = absurd (false≢true (sym h))
     by_test false is h later = rw (fewer x.mask.0 is) (later h)
 
@@ -91,7 +91,8 @@ pub record Stays (s s2 : ℕ) (packets packets2 : Bool) (o o2 : Object) : Type 0
 -- no signal comes on and no packet comes, and no wait
 pub stays_fewer : (s s2 : ℕ) (packets packets2 : Bool) (o o2 : Object) → IsFewer s2 s → (packets ≡ false → packets2 ≡ false)
     → ((test : Watch → Bool) → list_any test o.signals.waits ≡ false → list_any test o2.signals.waits ≡ false) → Stays s s2 packets packets2 o o2
-stays_fewer s s2 packets packets2 o o2 fewer quiet shorter = record { holds = λ h. shorter (holds s2) (none_hold s s2 fewer o.signals.waits h); gives = gives }
+stays_fewer s s2 packets packets2 o o2 fewer quiet shorter =
+    record { holds = λ h. shorter (watch_holds s2) (none_hold s s2 fewer o.signals.waits h); gives = gives }
   where
     gives : (a : Awaited) → IsTrue o.asleep → is_given s packets a ≡ false → is_given s2 packets2 a ≡ false
     gives (awaits.SignalOf k mask) slept h = fewer mask h
@@ -106,7 +107,7 @@ stays_unwatched s s2 packets packets2 o o2 same none =
       gives = λ a h given. absurd (false≢true (sym (or_first o2.asleep (not (is_empty o2.signals.waits)) none) ∙ same h));
     }
   where
-    no_waits : (ws : List Watch) (b : Bool) → (b || not (is_empty ws)) ≡ false → list_any (holds s2) ws ≡ false
+    no_waits : (ws : List Watch) (b : Bool) → (b || not (is_empty ws)) ≡ false → list_any (watch_holds s2) ws ≡ false
     no_waits [] b h = refl
     no_waits (x ∷ ws) true h = absurd (false≢true (sym h))
     no_waits (x ∷ ws) false h = absurd (false≢true (sym h))
@@ -174,7 +175,7 @@ fewer_unmarked marked marked2 more k unmarked = by_test (marked k) refl
 -- it stays as much a child, below the same job, the end of the same peer, and who may be blocked at it stays
 pub record Keeps (f : Object → Object) : Type 0 where
   pub asleep : (o : Object) → StayAsleep o.asleep (f o).asleep
-  pub jobs : (j : ℕ) (o : Object) → is_job_below j (f o).body ≡ is_job_below j o.body
+  pub jobs : (j : ℕ) (o : Object) → is_job_below_here j (f o).body ≡ is_job_below_here j o.body
   pub processes : (j : ℕ) (o : Object) → is_process_below j (f o).body ≡ is_process_below j o.body
   pub peer : (o : Object) → peer_of (f o).body ≡ peer_of o.body
   pub above : (o : Object) → above_of (f o).body ≡ above_of o.body
@@ -191,11 +192,11 @@ module _ (f : Object → Object) where
       ]
 
   -- the signals of an object stay, of which the one at k is as much a child
-  pub implied_updated : (m : Map Object) (k j : ℕ) (b : Body) → ((o : Object) → get m k ≡ Some o → is_job_below j (f o).body ≡ is_job_below j o.body)
-      → ((o : Object) → get m k ≡ Some o → is_process_below j (f o).body ≡ is_process_below j o.body) → implied (update m k f) j b ≡ implied m j b
+  pub implied_updated : (m : Map Object) (k j : ℕ) (b : Body) → ((o : Object) → get m k ≡ Some o → is_job_below_here j (f o).body ≡ is_job_below_here j o.body)
+      → ((o : Object) → get m k ≡ Some o → is_process_below j (f o).body ≡ is_process_below j o.body) → implied_here (update m k f) j b ≡ implied_here m j b
   unfolding has_job_below has_process_below
   implied_updated m k j (body.Job own) jobs processes =
-      λ i. bit_or (signal_if TERMINATED own.killed) (bit_or (signal_if NO_JOBS (not (below_updated (is_job_below j) m k jobs i)))
+      λ i. bit_or (signal_if TERMINATED own.killed) (bit_or (signal_if NO_JOBS (not (below_updated (is_job_below_here j) m k jobs i)))
       (signal_if NO_PROCESSES (not (below_updated (is_process_below j) m k processes i))))
   implied_updated m k j (body.ChannelEnd peer queue) jobs processes = rw (has_key-update m k f peer) refl
   implied_updated m k j (body.PairEnd peer) jobs processes = rw (has_key-update m k f peer) refl

@@ -2,10 +2,11 @@
 use Rattle.zl_objects.proofs.Common.{Body, Bool, Condition, Err, IsCalm, IsTrue, List, Map, Message, Object, Ok, OnErr, OnOk, PEER_CLOSED, Packet, Port}
 use Rattle.zl_objects.proofs.Common.{READABLE, Result, SignalState, Sleeper, Some, StayStill, TERMINATED, WRITABLE, Watch, [], above_of, ap, arith, at_port}
 use Rattle.zl_objects.proofs.Common.{bit_or, changed_port, drop, eq-eqb, false, false≢true, filter, get, get-update, has_key, has_packet, held_once_less}
-use Rattle.zl_objects.proofs.Common.{held_once_more, if◌then◌else◌, implied, inl, is_alive, is_at, is_empty, is_job_below, is_process_below, is_watched}
-use Rattle.zl_objects.proofs.Common.{is_watched_in, list_any, lookup, nat_cmp, nat_lt, not, packets_of, peer_of, raised_changed, received, received_body, refl}
-use Rattle.zl_objects.proofs.Common.{same_Some, sent, sent_body, set_value, signal_if, signals_in, started, started_body, started_life, sym, true, unwatched}
-use Rattle.zl_objects.proofs.Common.{update, waits_in, watched, with_policy_body, with_policy_set, without_first, ℕ, ◌&&◌, ◌+◌, ◌==◌, ◌^◌, ◌||◌, ◌∙◌, ◌∷◌, ◌≡◌}
+use Rattle.zl_objects.proofs.Common.{held_once_more, if◌then◌else◌, implied_here, inl, is_alive, is_at, is_empty, is_job_below_here, is_process_below}
+use Rattle.zl_objects.proofs.Common.{is_watched, is_watched_in, list_any, lookup, nat_cmp, nat_lt, not, packets_of, peer_of, raised_changed, received}
+use Rattle.zl_objects.proofs.Common.{received_body, refl, same_Some, sent, sent_body, set_value, signal_if, signals_in, started, started_body, started_life}
+use Rattle.zl_objects.proofs.Common.{sym, true, unwatched, update, waits_in, watched, with_policy_body, with_policy_set, without_first, ℕ, ◌&&◌, ◌+◌, ◌==◌, ◌^◌}
+use Rattle.zl_objects.proofs.Common.{◌||◌, ◌∙◌, ◌∷◌, ◌≡◌}
 use Rattle.zl_rights.specs.declared.policy.Action.{Action}
 use Rattle.zl_objects.specs.declared.object.Body.TheVariants as body
 use Rattle.zl_objects.specs.declared.object.Life.{Life}
@@ -34,7 +35,7 @@ pub keeps_body : (f : Object → Object) → ((o : Object) → StayAsleep o.asle
 keeps_body f asleep same =
     record {
       asleep = asleep;
-      jobs = λ j o. ap (is_job_below j) (same o);
+      jobs = λ j o. ap (is_job_below_here j) (same o);
       processes = λ j o. ap (is_process_below j) (same o);
       peer = λ o. ap peer_of (same o);
       above = λ o. ap above_of (same o);
@@ -44,7 +45,7 @@ pub quiet_body : (f : Object → Object) → ((o : Object) → (f o).body ≡ o.
     → ((o : Object) (test : Watch → Bool) → list_any test o.signals.waits ≡ false → list_any test (f o).signals.waits ≡ false) → IsQuiet f
 quiet_body f same raised shorter m k o =
     stays_fewer (signals_in m k (Some o)) (signals_in m k (Some (f o))) (has_packet (Some o)) (has_packet (Some (f o))) o (f o)
-    (fewer_same _ _ (λ i. bit_or (raised o i) (implied m k (same o i)))) (λ h. ap (λ (b : Body). not (is_empty (packets_of b))) (same o) ∙ h) (shorter o)
+    (fewer_same _ _ (λ i. bit_or (raised o i) (implied_here m k (same o i)))) (λ h. ap (λ (b : Body). not (is_empty (packets_of b))) (same o) ∙ h) (shorter o)
 
 more_asleep : (o : Object) → (held_once_more o).asleep ≡ o.asleep
 more_asleep o =
@@ -102,12 +103,12 @@ unwatched_calm out = quiet_calm (unwatched out) (keeps_unwatched out) (unwatched
 
 -- it stays as much a child, and no signal comes on and no packet comes
 record IsQuietBody (g : Body → Body) : Type 0 where
-  jobs : (j : ℕ) (b : Body) → is_job_below j (g b) ≡ is_job_below j b
+  jobs : (j : ℕ) (b : Body) → is_job_below_here j (g b) ≡ is_job_below_here j b
   processes : (j : ℕ) (b : Body) → is_process_below j (g b) ≡ is_process_below j b
-  fewer : (m : Map Object) (k : ℕ) (b : Body) → IsFewer (implied m k (g b)) (implied m k b)
+  fewer : (m : Map Object) (k : ℕ) (b : Body) → IsFewer (implied_here m k (g b)) (implied_here m k b)
   packets : (b : Body) → not (is_empty (packets_of b)) ≡ false → not (is_empty (packets_of (g b))) ≡ false
 
-keeps_bodies : (g : Body → Body) → ((j : ℕ) (b : Body) → is_job_below j (g b) ≡ is_job_below j b)
+keeps_bodies : (g : Body → Body) → ((j : ℕ) (b : Body) → is_job_below_here j (g b) ≡ is_job_below_here j b)
     → ((j : ℕ) (b : Body) → is_process_below j (g b) ≡ is_process_below j b) → ((b : Body) → peer_of (g b) ≡ peer_of b)
     → ((b : Body) → above_of (g b) ≡ above_of b) → Keeps (λ o. record o { body = g o.body })
 keeps_bodies g jobs processes peer above =
@@ -117,7 +118,7 @@ bodies_stay : (g : Body → Body) → IsQuietBody g → IsQuiet (λ o. record o 
 bodies_stay g quiet m k o =
     stays_fewer (signals_in m k (Some o)) (signals_in m k (Some (record o { body = g o.body }))) (has_packet (Some o))
     (has_packet (Some (record o { body = g o.body }))) o
-    (record o { body = g o.body }) (fewer_both o.signals.raised o.signals.raised (implied m k (g o.body)) (implied m k o.body) (λ mask h. h)
+    (record o { body = g o.body }) (fewer_both o.signals.raised o.signals.raised (implied_here m k (g o.body)) (implied_here m k o.body) (λ mask h. h)
     (quiet.fewer m k o.body)) (quiet.packets o.body) (λ test h. h)
 
 alive_started : (l : Life) → is_alive (started_life l) ≡ is_alive l
@@ -128,7 +129,7 @@ alive_started life.Ended = refl
 started_quiet : IsQuietBody started_body
 started_quiet = record { jobs = jobs; processes = processes; fewer = fewer; packets = packets }
   where
-    jobs : (j : ℕ) (b : Body) → is_job_below j (started_body b) ≡ is_job_below j b
+    jobs : (j : ℕ) (b : Body) → is_job_below_here j (started_body b) ≡ is_job_below_here j b
     jobs j (body.Process job l) = refl
     jobs j _ = refl
 
@@ -136,7 +137,7 @@ started_quiet = record { jobs = jobs; processes = processes; fewer = fewer; pack
     processes j (body.Process job l) = ap (λ x. (job == j) && x) (alive_started l)
     processes j _ = refl
 
-    fewer : (m : Map Object) (k : ℕ) (b : Body) → IsFewer (implied m k (started_body b)) (implied m k b)
+    fewer : (m : Map Object) (k : ℕ) (b : Body) → IsFewer (implied_here m k (started_body b)) (implied_here m k b)
     fewer m k (body.Process job l) = fewer_same _ _ (ap (λ x. signal_if TERMINATED (not x)) (alive_started l))
     fewer m k _ = λ mask h. h
 
@@ -153,7 +154,7 @@ started_stays = bodies_stay started_body started_quiet
 policy_quiet : (c : Condition) (a : Action) → IsQuietBody (with_policy_body c a)
 policy_quiet c a = record { jobs = jobs; processes = processes; fewer = fewer; packets = packets }
   where
-    jobs : (j : ℕ) (b : Body) → is_job_below j (with_policy_body c a b) ≡ is_job_below j b
+    jobs : (j : ℕ) (b : Body) → is_job_below_here j (with_policy_body c a b) ≡ is_job_below_here j b
     jobs j (body.Job own) = refl
     jobs j _ = refl
 
@@ -161,7 +162,7 @@ policy_quiet c a = record { jobs = jobs; processes = processes; fewer = fewer; p
     processes j (body.Job own) = refl
     processes j _ = refl
 
-    fewer : (m : Map Object) (k : ℕ) (b : Body) → IsFewer (implied m k (with_policy_body c a b)) (implied m k b)
+    fewer : (m : Map Object) (k : ℕ) (b : Body) → IsFewer (implied_here m k (with_policy_body c a b)) (implied_here m k b)
     fewer m k (body.Job own) = λ mask h. h
     fewer m k _ = λ mask h. h
 
@@ -172,7 +173,7 @@ policy_quiet c a = record { jobs = jobs; processes = processes; fewer = fewer; p
 received_quiet : IsQuietBody received_body
 received_quiet = record { jobs = jobs; processes = processes; fewer = fewer; packets = packets }
   where
-    jobs : (j : ℕ) (b : Body) → is_job_below j (received_body b) ≡ is_job_below j b
+    jobs : (j : ℕ) (b : Body) → is_job_below_here j (received_body b) ≡ is_job_below_here j b
     jobs j (body.ChannelEnd peer queue) = refl
     jobs j _ = refl
 
@@ -184,7 +185,7 @@ received_quiet = record { jobs = jobs; processes = processes; fewer = fewer; pac
     some_left [] h = h
     some_left (x ∷ queue) h = refl
 
-    fewer : (m : Map Object) (k : ℕ) (b : Body) → IsFewer (implied m k (received_body b)) (implied m k b)
+    fewer : (m : Map Object) (k : ℕ) (b : Body) → IsFewer (implied_here m k (received_body b)) (implied_here m k b)
     fewer m k (body.ChannelEnd peer queue) =
         fewer_both (signal_if READABLE (not (is_empty (drop 1 queue)))) (signal_if READABLE (not (is_empty queue)))
         (if has_key m peer then WRITABLE else PEER_CLOSED) (if has_key m peer then WRITABLE else PEER_CLOSED)
@@ -202,7 +203,7 @@ pub received_stays : IsQuiet received
 received_stays = bodies_stay received_body received_quiet
 
 module _ (g : Port → Port) where
-  port_jobs : (j : ℕ) (b : Body) → is_job_below j (changed_port g b) ≡ is_job_below j b
+  port_jobs : (j : ℕ) (b : Body) → is_job_below_here j (changed_port g b) ≡ is_job_below_here j b
   port_jobs j (body.Port p) = refl
   port_jobs j _ = refl
 
@@ -217,7 +218,7 @@ module _ (g : Port → Port) where
   pub port_stays : ((p : Port) → not (is_empty p.packets) ≡ false → not (is_empty (g p).packets) ≡ false) → IsQuiet (at_port g)
   port_stays fewer = bodies_stay (changed_port g) (record { jobs = port_jobs; processes = port_processes; fewer = signals; packets = packets })
     where
-      signals : (m : Map Object) (k : ℕ) (b : Body) → IsFewer (implied m k (changed_port g b)) (implied m k b)
+      signals : (m : Map Object) (k : ℕ) (b : Body) → IsFewer (implied_here m k (changed_port g b)) (implied_here m k b)
       signals m k (body.Port p) = λ mask h. h
       signals m k _ = λ mask h. h
 
@@ -248,7 +249,7 @@ keeps_changed clear set = keeps_body (raised_changed clear set) (λ o h. h) (λ 
 pub keeps_sent : (message : Message) → Keeps (sent message)
 keeps_sent message = keeps_bodies (sent_body message) jobs processes (λ b. (sent_same message b).peer) (λ b. (sent_same message b).above)
   where
-    jobs : (j : ℕ) (b : Body) → is_job_below j (sent_body message b) ≡ is_job_below j b
+    jobs : (j : ℕ) (b : Body) → is_job_below_here j (sent_body message b) ≡ is_job_below_here j b
     jobs j (body.ChannelEnd peer queue) = refl
     jobs j _ = refl
 

@@ -1,8 +1,8 @@
 -- Nothing comes to be due at an object that isn't marked, where a process ends, or it or a job is killed.
 use Rattle.zl_objects.proofs.Common.{Body, Bool, IfSome, IsTrue, KeepsCalm, Map, None, Object, Option, Some, ap, arith, bit_or, cases_Bool, eqb-true, false}
-use Rattle.zl_objects.proofs.Common.{false≢true, get, has_packet, if◌then◌else◌, inl, inr, is_at, is_child, is_job_below, is_koid, is_process_below, is_watched}
-use Rattle.zl_objects.proofs.Common.{is_watched_in, keeper_of, killed_if, list_any, lookup, nat_cmp, refl, same_Some, signals_at, subst, sym, true, update, ℕ}
-use Rattle.zl_objects.proofs.Common.{◌==◌, ◌∙◌, ◌≡◌, ◌⊎◌}
+use Rattle.zl_objects.proofs.Common.{false≢true, get, has_packet, if◌then◌else◌, inl, inr, is_at, is_child, is_job_below_here, is_koid, is_process_below}
+use Rattle.zl_objects.proofs.Common.{is_watched, is_watched_in, keeper_of, killed_if, list_any, lookup, nat_cmp, refl, same_Some, signals_at, subst, sym, true}
+use Rattle.zl_objects.proofs.Common.{update, ℕ, ◌==◌, ◌∙◌, ◌≡◌, ◌⊎◌}
 use Rattle.zl_objects.proofs.Bodies.{Changed, changed}
 use Rattle.zl_objects.proofs.ByKoid.{looked_up}
 use Rattle.zl_objects.proofs.Calm.{Follows, Stays, as_asleep, calm_followed, fewer_same, fewer_unmarked, implied_updated, stays_fewer, stays_unwatched}
@@ -51,7 +51,7 @@ module _ (f : Object → Object) (none : MakesNone f) (asleep : (o : Object) →
           let same : o ≡ c.before = c.is ∙ rw apart refl in
           let stays : signals_at n j ≡ signals_at m j =
           rw (at, c.there, same, is) (ap (bit_or c.before.signals.raised) (implied_updated f m k j c.before.body
-          (λ x there. neither is_job_below job_is_child j (f x).body x.body (no_more x (no_child x there)) (no_child x there))
+          (λ x there. neither is_job_below_here job_is_child j (f x).body x.body (no_more x (no_child x there)) (no_child x there))
           (λ x there. neither is_process_below process_is_child j (f x).body x.body (no_more x (no_child x there)) (no_child x there)))) in
           stays_fewer _ _ _ _ c.before o (fewer_same _ _ stays) (λ h. ap (λ q. has_packet q) (at ∙ (ap (λ (x : Object). Some x) same ∙ sym c.there)) ∙ h)
           (λ test h. ap (λ (x : Object). list_any test x.signals.waits) same ∙ h)

@@ -1,10 +1,10 @@
 -- Nothing is due at an object that isn't marked, once objects were made, or taken back, or processes are blocked.
-use Rattle.zl_objects.proofs.Common.{All, All-nil, All-weaker, Body, Bool, HasPeer, IsAtRest, IsCalm, IsTrue, List, Map, NO_JOBS, NO_PROCESSES, None, NoneHolds}
-use Rattle.zl_objects.proofs.Common.{Object, Option, Pair, Sleeper, Some, TERMINATED, [], ap, arith, cases_Bool, eq-eqb, eqb-true, false, false≢true, filter}
-use Rattle.zl_objects.proofs.Common.{get, get-put, has_job_below, has_key, has_process_below, holds_now, if◌then◌else◌, implied, inl, inr, insert_entry, is_due}
-use Rattle.zl_objects.proofs.Common.{is_job_below, is_process_below, is_watched, list_any, map, nat_cmp, nat_tests, none-some, not, or_left, or_right, peer_of}
-use Rattle.zl_objects.proofs.Common.{put, refl, same_Some, signal_if, signals_at, signals_in, slept, sym, true, update, wait_at, waits_in, ℕ, ◌++◌, ◌+◌, ◌<◌}
-use Rattle.zl_objects.proofs.Common.{◌==◌, ◌||◌, ◌∙◌, ◌∷◌, ◌≡◌, ◌≤◌, ◌⊎◌}
+use Rattle.zl_objects.proofs.Common.{All, All-nil, All-weaker, Body, Bool, HasPeerHere, IsAtRest, IsCalm, IsTrue, List, Map, NO_JOBS, NO_PROCESSES, None}
+use Rattle.zl_objects.proofs.Common.{NoneHolds, Object, Option, Pair, Sleeper, Some, TERMINATED, [], ap, arith, cases_Bool, eq-eqb, eqb-true, false, false≢true}
+use Rattle.zl_objects.proofs.Common.{filter, get, get-put, has_job_below, has_key, has_process_below, holds_now, if◌then◌else◌, implied_here, inl, inr}
+use Rattle.zl_objects.proofs.Common.{insert_entry, is_due, is_job_below_here, is_process_below, is_watched, list_any, map, nat_cmp, nat_tests, none-some, not}
+use Rattle.zl_objects.proofs.Common.{or_left, or_right, peer_of, put, refl, same_Some, signal_if, signals_at, signals_in, slept, sym, true, update, wait_at}
+use Rattle.zl_objects.proofs.Common.{waits_in, ℕ, ◌++◌, ◌+◌, ◌<◌, ◌==◌, ◌||◌, ◌∙◌, ◌∷◌, ◌≡◌, ◌≤◌, ◌⊎◌}
 use Rattle.zl_rights.specs.World.{Wait}
 use Rattle.zl_objects.specs.declared.object.Body.TheVariants as body
 use Rattle.zl_objects.proofs.Listed.{AreSeen}
@@ -32,13 +32,13 @@ less_often true false more h = absurd (false≢true (more refl))
 
 module _ (m : Map Object) (next : ℕ) (o : Object) (below : (k : ℕ) → IsTrue (has_key m k) → k < next) where
   -- no signal comes on where another peer is had, if any
-  implied_fewer : (j : ℕ) (b : Body) → ((p : ℕ) → peer_of b ≡ Some p → (next == p) ≡ false) → IsFewer (implied (put m next o) j b) (implied m j b)
+  implied_fewer : (j : ℕ) (b : Body) → ((p : ℕ) → peer_of b ≡ Some p → (next == p) ≡ false) → IsFewer (implied_here (put m next o) j b) (implied_here m j b)
   unfolding has_job_below has_process_below
   implied_fewer j (body.Job own) apart =
       let more : (test : Body → Bool) → IsTrue (list_any (λ e. test e.1.body) m) → IsTrue (list_any (λ e. test e.1.body) (put m next o)) =
       λ test h. rw (put_last m next o below) (any_left (λ e. test e.1.body) m ((next, o) ∷ []) h) in
       fewer_both (signal_if TERMINATED own.killed) (signal_if TERMINATED own.killed) _ _ (λ mask h. h)
-      (fewer_both _ _ _ _ (fewer_if NO_JOBS _ _ (less_often _ _ (more (is_job_below j))))
+      (fewer_both _ _ _ _ (fewer_if NO_JOBS _ _ (less_often _ _ (more (is_job_below_here j))))
       (fewer_if NO_PROCESSES _ _ (less_often _ _ (more (is_process_below j)))))
   implied_fewer j (body.ChannelEnd peer queue) apart = rw (get-put m next o peer, apart peer refl) (λ mask h. h)
   implied_fewer j (body.PairEnd peer) apart = rw (get-put m next o peer, apart peer refl) (λ mask h. h)
@@ -68,7 +68,7 @@ module _ (m : Map Object) (next : ℕ) (o : Object) (below : (k : ℕ) → IsTru
         unmarked = λ unmarked. unmarked;
         still = λ unmarked. rw (was, at)
             (stays_fewer (signals_in m k (Some q)) (signals_in (put m next o) k (Some q)) _ _ q q
-            (fewer_both q.signals.raised q.signals.raised (implied (put m next o) k q.body) (implied m k q.body) (λ mask h. h)
+            (fewer_both q.signals.raised q.signals.raised (implied_here (put m next o) k q.body) (implied_here m k q.body) (λ mask h. h)
             (implied_fewer k q.body apart)) (λ h. h) (λ test h. h));
       }
 
@@ -151,7 +151,7 @@ calmed {marked} {marked2} {next} m waits list listed none quiet calm = record {
 -- ---- new objects
 
 -- the peer of an end was given, so it isn't the next koid
-pub given_apart : (m : Map Object) (next later : ℕ) (b : Body) → next ≤ later → HasPeer m next b → (p : ℕ) → peer_of b ≡ Some p → (later == p) ≡ false
+pub given_apart : (m : Map Object) (next later : ℕ) (b : Body) → next ≤ later → HasPeerHere m next b → (p : ℕ) → peer_of b ≡ Some p → (later == p) ≡ false
 given_apart m next later b most has p is = let given : p < next = (rw is at has).0 in grind (arith, nat_tests, given, most)
 
 pub none_calm : {marked : ℕ → Bool} {next : ℕ} {sleepers : List Sleeper} (m : Map Object) → m ≡ [] → sleepers ≡ [] → IsCalm marked m next sleepers
@@ -173,7 +173,7 @@ cleared_calm {marked} {next} {sleepers} m n none calm = rw none (record {
 })
 
 module _ {marked : ℕ → Bool} {sleepers : List Sleeper} (m : Map Object) (next : ℕ) (o : Object) (below : (k : ℕ) → IsTrue (has_key m k) → k < next)
-    (peers : (k : ℕ) (q : Object) → get m k ≡ Some q → HasPeer m next q.body) where
+    (peers : (k : ℕ) (q : Object) → get m k ≡ Some q → HasPeerHere m next q.body) where
   pub created_calm : o.signals.waits ≡ [] → (n : Map Object) → n ≡ insert_entry nat_cmp m next o → IsCalm marked m next sleepers
       → IsCalm marked n (next + 1) sleepers
   created_calm fresh = inserted_calm m next o below fresh (λ k q at. inr (given_apart m next next q.body (omega arith) (peers k q at)))

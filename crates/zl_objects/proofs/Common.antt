@@ -30,32 +30,32 @@ pub use Rattle.std.specs.Option.{IfNone, option_to_list}
 pub use Rattle.std.specs.Ordering.{is_gt, is_lt, ordering_index}
 pub use Rattle.std.specs.Prelude.{IsSome, OnErr, bit_or, is_err, max, min, ◌↔◌}
 pub use Rattle.zl_objects.specs.Awaited.{koid_of}
-pub use Rattle.zl_objects.specs.Below.{HasBelow, HasTask, IsListedNext, IsNextListed, is_among, killed_among, looked_at}
+pub use Rattle.zl_objects.specs.Below.{HasBelow, HasTask, IsListedNext, IsNextListed, is_one_of, killed_among, looked_at}
 pub use Rattle.zl_objects.specs.Calm.{IsAtRest, IsCalm, IsSteady, KeepsCalm, NoneHolds, StayStill, has_packet, holds_now, is_due, is_given, is_marked}
 pub use Rattle.zl_objects.specs.Calm.{is_watched, is_watched_in, slept}
 pub use Rattle.zl_objects.specs.Due.{earlier, earliest_from, is_entry_due, order_at}
-pub use Rattle.zl_objects.specs.Dying.{HasPeer, HasPeerOf, IsKept, IsWhole, LetsGo, Thins, is_last, is_named, is_unkept, left_at, unkept_at}
+pub use Rattle.zl_objects.specs.Dying.{HasPeerHere, IsKept, IsPeerHere, IsWhole, LetsGo, Thins, is_last, is_named, is_unkept, left_at, unkept_at}
 unfoldable pub use Rattle.zl_objects.specs.Dying.{budget}
 pub use Rattle.zl_objects.specs.Index.{ArePaired, IsIndexed, OthersStayListed, StayListed, above_of, is_under, lists, pair_cmp, passes_in}
-pub use Rattle.zl_objects.specs.Jobs.{is_below, is_job_below, is_process_below, is_within, killed, killed_body, killed_if, killing, parent_at, parent_in}
-pub use Rattle.zl_objects.specs.Jobs.{parent_of, with_policy_body, with_policy_set}
+pub use Rattle.zl_objects.specs.Jobs.{is_below, is_job_below_here, is_process_below, is_within_here, killed, killed_body, killed_if, killing, parent_at}
+pub use Rattle.zl_objects.specs.Jobs.{parent_found, parent_held, with_policy_body, with_policy_set}
 unfoldable pub use Rattle.zl_objects.specs.Jobs.{all_killed, descendants, has_job_below, has_process_below, is_below_by}
 pub use Rattle.zl_objects.specs.Listed.{AreListed, entry_of, is_entry_there, is_there, listed_at, listed_value, order_entry, watch_of}
 pub use Rattle.zl_objects.specs.Objects.{Objects, end_to, held_once_less, held_once_more, if_there, is_alive, is_channel_at, is_channel_body, is_channel_in}
-pub use Rattle.zl_objects.specs.Objects.{is_child, is_end_at, is_end_body, is_job_at, is_job_body, is_job_in, is_kept, is_koid, job_in, job_of, keeper_of}
-pub use Rattle.zl_objects.specs.Objects.{kind_at, kind_in, kind_of_pair, new_object, peer_at, peer_in, peer_of, queue_of, raised_changed, reader_at, reader_in}
-pub use Rattle.zl_objects.specs.Objects.{reader_of, received, received_body, sent, sent_body, started, started_body, started_life, stays_alone, stopped}
-pub use Rattle.zl_objects.specs.Objects.{stopped_body, stopping}
-unfoldable pub use Rattle.zl_objects.specs.Objects.{has_living_child}
+pub use Rattle.zl_objects.specs.Objects.{is_child, is_end_at, is_end_body, is_job_at, is_job_here, is_job_in, is_kept, is_koid, job_in, job_of, keeper_of}
+pub use Rattle.zl_objects.specs.Objects.{kind_here, kind_in, kind_of_pair, new_object, peer_found, peer_here, peer_of, queue_held, raised_changed, reader_at}
+pub use Rattle.zl_objects.specs.Objects.{reader_in, reader_of, received, received_body, sent, sent_body, started, started_body, started_life, stays_alone}
+pub use Rattle.zl_objects.specs.Objects.{stopped, stopped_body, stopping}
+unfoldable pub use Rattle.zl_objects.specs.Objects.{has_living_child_here}
 pub use Rattle.zl_objects.specs.PortWaits.{AreFound, AreOwn, AreRegistered, IsEarliest, IsFirst, finds, is_entry_at, is_entry_to, is_pair, is_pair_of}
 pub use Rattle.zl_objects.specs.PortWaits.{without_ended, without_given, without_own}
 pub use Rattle.zl_objects.specs.Ports.{at_port, changed_port, has_place_in, is_port_at, is_port_in, packets_of, reserved_in, reserved_of, unreserved}
-pub use Rattle.zl_objects.specs.Release.{AreKeptBut, Cascades, Releases, all_koids, goes, koids_of, let_go, named_in, none_left, waits_end}
+pub use Rattle.zl_objects.specs.Release.{AreKeptBut, Cascades, Releases, all_koids, goes, koids_in, let_go, named_in, none_left, waits_end}
 pub use Rattle.zl_objects.specs.Seen.{Agrees, IsExact, LeavesLargest, body_value, is_above, is_in_job, object_entry, object_value, with_all, with_objects}
-pub use Rattle.zl_objects.specs.Signals.{AreActive, ShowStates, Shows, implied, signals_at, signals_in}
+pub use Rattle.zl_objects.specs.Signals.{AreActive, ShowStates, Shows, implied_here, signals_at, signals_in}
 pub use Rattle.zl_objects.specs.Sleepers.{IsFirstDue, IsListed, IsPlace, IsPut, IsUnlisted, ListsLast, NoneDueAt, TakesDue, is_for, listed_for}
 pub use Rattle.zl_objects.specs.Waits.{AreSameButWaits, HavePlaces, HavePlacesWith, HaveSameWaits, KeepsWaits, bare, ending_port, ending_waits, ends_waits}
-pub use Rattle.zl_objects.specs.Waits.{giving_back, next_in, one_for, unwatched, waits_at, waits_for, waits_in, watched, without_port_waits}
+pub use Rattle.zl_objects.specs.Waits.{giving_back, one_for, order_found, unwatched, waits_at, waits_for, waits_in, watched, without_port_waits}
 pub use Rattle.zl_objects.specs.Walks.{IsLeastFrom, IsNext}
 pub use Rattle.zl_objects.specs.declared.awaited.Awaited.{Awaited}
 pub use Rattle.zl_objects.specs.declared.awaited.Sleeper.{Sleeper}
@@ -75,7 +75,7 @@ pub use Rattle.zl_rights.specs.World.{Message, Packet}
 pub use Rattle.zl_rights.specs.declared.entry.Entry.{Entry}
 pub use Rattle.zl_rights.specs.declared.kind.Kind.{Kind}
 pub use Rattle.zl_rights.specs.declared.policy.Condition.{Condition}
-pub use Rattle.zl_signals.specs.Waits.{SignalState, holds, is_at_port, is_by_handle, is_keyed, wait_at, without_first}
+pub use Rattle.zl_signals.specs.Waits.{SignalState, is_at_port, is_by_handle_here, is_keyed_here, wait_at, watch_holds, without_first}
 pub use Rattle.zl_signals.specs.declared.watch.Watch.{Watch}
 pub use Rattle.zl_rights.proofs.MapEdits.{below_parts, get-without, has_key-update, is_sorted-update, length-update, length-without, put_key, sorted_parts}
 pub use Rattle.zl_rights.proofs.MapEdits.{sorted_put, sorted_without, update_missing, without_lower}

@@ -2,11 +2,11 @@
 use Rattle.zl_objects.proofs.Common.{AreKeptBut, Body, Bool, Children, HasBelow, HasTask, IsInRange, IsIndexed, IsKeyRangeOf, IsListedNext, IsNextListed}
 use Rattle.zl_objects.proofs.Common.{IsPermutation, IsTrue, LetsGo, List, Map, None, Object, Option, Some, [], all_killed, all_koids, and_from, and_parts, ap}
 use Rattle.zl_objects.proofs.Common.{append-nil, arith, below_all, below_parts, budget, cases_Bool, contains, each, eq-eqb, eqb-true, false, false≢true, get}
-use Rattle.zl_objects.proofs.Common.{get-each, has_key, has_living_child, if◌then◌else◌, inl, inr, is_among, is_below_by, is_child, is_kept, is_sorted}
-use Rattle.zl_objects.proofs.Common.{is_under, is_within, killed, killed_among, killed_body, killed_if, list_any-append, lists, looked_at, nat_cmp, nat_lt}
-use Rattle.zl_objects.proofs.Common.{nat_tests, none-some, none_left, not, option_map, or_cases, or_left, or_right, pair_cmp, parent_at, parent_in, parent_of}
-use Rattle.zl_objects.proofs.Common.{refl, same_Some, sorted_parts, stays_alone, subst, suc, sym, true, unsigned_tied, update, zero, ℕ, ◌&&◌, ◌++◌, ◌-◌, ◌<◌}
-use Rattle.zl_objects.proofs.Common.{◌==◌, ◌^◌, ◌||◌, ◌∙◌, ◌∷◌, ◌≡◌, ◌≤◌, ◌⊎◌}
+use Rattle.zl_objects.proofs.Common.{get-each, has_key, has_living_child_here, if◌then◌else◌, inl, inr, is_below_by, is_child, is_kept, is_one_of, is_sorted}
+use Rattle.zl_objects.proofs.Common.{is_under, is_within_here, killed, killed_among, killed_body, killed_if, list_any-append, lists, looked_at, nat_cmp, nat_lt}
+use Rattle.zl_objects.proofs.Common.{nat_tests, none-some, none_left, not, option_map, or_cases, or_left, or_right, pair_cmp, parent_at, parent_found}
+use Rattle.zl_objects.proofs.Common.{parent_held, refl, same_Some, sorted_parts, stays_alone, subst, suc, sym, true, unsigned_tied, update, zero, ℕ, ◌&&◌, ◌++◌}
+use Rattle.zl_objects.proofs.Common.{◌-◌, ◌<◌, ◌==◌, ◌^◌, ◌||◌, ◌∙◌, ◌∷◌, ◌≡◌, ◌≤◌, ◌⊎◌}
 use Rattle.std.specs.declared.ops.Bound.TheVariants.{Excluded, Included}
 use Rattle.std.proofs.lemmas.List.Sorted.{list_any-IsPermutation}
 use Rattle.zl_objects.specs.declared.object.Body.TheVariants as body
@@ -92,7 +92,7 @@ module _ (children : Children) (m : Map Object) (indexed : IsIndexed children m)
       no_parent : IsTrue (0 == job) → false ≡ true
       no_parent h = sym some ∙ eq-eqb job 0 (sym (eqb-true 0 job h))
 
-      by_body : (b : Body) → IsTrue (parent_of b == job) → IsTrue (is_under job b)
+      by_body : (b : Body) → IsTrue (parent_held b == job) → IsTrue (is_under job b)
       by_body (body.Job own) h = h
       by_body (body.Process above l) h = h
       by_body _ h = absurd (false≢true (no_parent h))
@@ -101,20 +101,20 @@ module _ (children : Children) (m : Map Object) (indexed : IsIndexed children m)
       positive zero there = absurd (false≢true (sym none ∙ there))
       positive (suc n) there = omega arith
 
-      by_object : (q : Option Object) → get m c ≡ q → IsTrue (parent_in q == job) → (0 < c) × IsTrue (lists children job c)
+      by_object : (q : Option Object) → get m c ≡ q → IsTrue (parent_found q == job) → (0 < c) × IsTrue (lists children job c)
       by_object None is h = absurd (false≢true (no_parent h))
       by_object (Some o) is h = (positive c (rw is refl), indexed.listed c job o is (by_body o.body h))
 
 -- what is listed under the job as far as this one is among these, and what stands so many levels below it
 abbrev pub HasUntil : Children → ℕ → ℕ → ℕ → List ℕ → Type 0
-HasUntil children job n last ks = (c : ℕ) → 0 < c → c ≤ last → IsTrue (lists children job c) → IsTrue (is_among c ks) × HasBelow children c n ks
+HasUntil children job n last ks = (c : ℕ) → 0 < c → c ≤ last → IsTrue (lists children job c) → IsTrue (is_one_of c ks) × HasBelow children c n ks
 
 module _ (children : Children) (job n last : ℕ) (ks : List ℕ) where
   -- none is left
   pub until_all : HasUntil children job n last ks → IsNextListed children job last None → HasBelow children job (suc n) ks
   until_all until no_more m indexed none some k h = by_way (through m job n k h)
     where
-      by_way : Through m job n k → IsTrue (is_among k ks)
+      by_way : Through m job n k → IsTrue (is_one_of k ks)
       by_way t = elim (cases_Bool (nat_lt last t.way)) [
         | inl behind ↦ absurd (false≢true (sym (no_more t.way (grind (arith, nat_tests, behind))) ∙ stands.1))
         | inr before ↦ by_below t.below (until t.way stands.0 (grind (arith, nat_tests, before)) stands.1)
@@ -123,8 +123,8 @@ module _ (children : Children) (job n last : ℕ) (ks : List ℕ) where
           stands : (0 < t.way) × IsTrue (lists children job t.way)
           stands = under children m indexed none job t.way some t.up
 
-          by_below : (t.way ≡ k) ⊎ IsTrue (is_below_by m t.way n k) → IsTrue (is_among t.way ks) × HasBelow children t.way n ks → IsTrue (is_among k ks)
-          by_below (inl is) has = ap (λ j. is_among j ks) (sym is) ∙ has.0
+          by_below : (t.way ≡ k) ⊎ IsTrue (is_below_by m t.way n k) → IsTrue (is_one_of t.way ks) × HasBelow children t.way n ks → IsTrue (is_one_of k ks)
+          by_below (inl is) has = ap (λ j. is_one_of j ks) (sym is) ∙ has.0
           by_below (inr later) has = has.1 m indexed none (let some : 0 < t.way = stands.0 in grind (arith, nat_tests, some)) k later
 
 pub no_levels : (children : Children) (job : ℕ) (ks : List ℕ) → HasBelow children job 0 ks
@@ -181,20 +181,20 @@ module _ (m : Map Object) (task : ℕ) (sorted : IsTrue (is_sorted nat_cmp m)) w
       none true o = refl
       none false o = refl
 
-      each_none : (n : Map Object) → each (λ j. killed_if (is_within m task j && false)) n ≡ n
+      each_none : (n : Map Object) → each (λ j. killed_if (is_within_here m task j && false)) n ≡ n
       each_none [] = refl
-      each_none (e ∷ n) = λ i. (e.0, none (is_within m task e.0) e.1 i) ∷ each_none n i
+      each_none (e ∷ n) = λ i. (e.0, none (is_within_here m task e.0) e.1 i) ∷ each_none n i
 
   -- one more of them was looked at
-  pub one_among : (now new : Map Object) (ks : List ℕ) (k : ℕ) (within : Bool) → now ≡ killed_among m task ks → within ≡ is_within now task k
+  pub one_among : (now new : Map Object) (ks : List ℕ) (k : ℕ) (within : Bool) → now ≡ killed_among m task ks → within ≡ is_within_here now task k
       → new ≡ update now k (killed_if within) → new ≡ killed_among m task (ks ++ k ∷ [])
   one_among now new ks k within is one set =
-      set ∙ (ap (λ b. update now k (killed_if b)) (one ∙ (ap (λ n. is_within n task k) is ∙ same_within (λ j. killed_if (done j))
-      (λ j. if_stays (done j)) m task k)) ∙ (ap (λ n. update n k (killed_if (is_within m task k))) is
-      ∙ (each_then (λ j. killed_if (done j)) k (killed_if (is_within m task k)) m sorted ∙ each_same _ _ m (λ j o. by_key j o (cases_Bool (k == j))))))
+      set ∙ (ap (λ b. update now k (killed_if b)) (one ∙ (ap (λ n. is_within_here n task k) is ∙ same_within (λ j. killed_if (done j))
+      (λ j. if_stays (done j)) m task k)) ∙ (ap (λ n. update n k (killed_if (is_within_here m task k))) is
+      ∙ (each_then (λ j. killed_if (done j)) k (killed_if (is_within_here m task k)) m sorted ∙ each_same _ _ m (λ j o. by_key j o (cases_Bool (k == j))))))
     where
       done : ℕ → Bool
-      done j = is_within m task j && is_among j ks
+      done j = is_within_here m task j && is_one_of j ks
 
       twice : (w a : Bool) (o : Object) → killed_if w (killed_if (w && a) o) ≡ killed_if (w && (a || (true || false))) o
       twice false a o = refl
@@ -206,17 +206,17 @@ module _ (m : Map Object) (task : ℕ) (sorted : IsTrue (is_sorted nat_cmp m)) w
       once w true o = refl
 
       by_key : (j : ℕ) (o : Object) → IsTrue (k == j) ⊎ ((k == j) ≡ false)
-          → (if k == j then killed_if (is_within m task k) (killed_if (done j) o) else killed_if (done j) o)
-          ≡ killed_if (is_within m task j && is_among j (ks ++ k ∷ [])) o
-      by_key j o (inl here) = rw (here, list_any-append (λ x. x == j) ks (k ∷ []), here, eqb-true k j here) (twice (is_within m task j) (is_among j ks) o)
-      by_key j o (inr apart) = rw (apart, list_any-append (λ x. x == j) ks (k ∷ []), apart) (once (is_within m task j) (is_among j ks) o)
+          → (if k == j then killed_if (is_within_here m task k) (killed_if (done j) o) else killed_if (done j) o)
+          ≡ killed_if (is_within_here m task j && is_one_of j (ks ++ k ∷ [])) o
+      by_key j o (inl here) = rw (here, list_any-append (λ x. x == j) ks (k ∷ []), here, eqb-true k j here) (twice (is_within_here m task j) (is_one_of j ks) o)
+      by_key j o (inr apart) = rw (apart, list_any-append (λ x. x == j) ks (k ∷ []), apart) (once (is_within_here m task j) (is_one_of j ks) o)
 
   -- all that matter were looked at
   pub all_among : (ks : List ℕ) → HasTask m task ks → killed_among m task ks ≡ all_killed m task
   unfolding all_killed
-  all_among ks has = each_same _ _ m (λ j o. by_test j o (is_within m task j) refl)
+  all_among ks has = each_same _ _ m (λ j o. by_test j o (is_within_here m task j) refl)
     where
-      by_test : (j : ℕ) (o : Object) (b : Bool) → is_within m task j ≡ b → killed_if (b && is_among j ks) o ≡ killed_if b o
+      by_test : (j : ℕ) (o : Object) (b : Bool) → is_within_here m task j ≡ b → killed_if (b && is_one_of j ks) o ≡ killed_if b o
       by_test j o false is = refl
       by_test j o true is = rw (has.within j is) refl
 
@@ -252,30 +252,30 @@ one_swept m m2 m3 ks rest k before went = record {
     moved others old = record {
       in_order = old.in_order;
       noted = λ j o at unkept. rw (list_any-append (λ x. x == j) (others ++ rest) (k ∷ []), list_any-append (λ x. x == j) others rest)
-          (turned (is_among j others) (k == j) (is_among j rest) (rw (list_any-append (λ x. x == j) others (k ∷ rest)) at (old.noted j o at unkept)));
+          (turned (is_one_of j others) (k == j) (is_one_of j rest) (rw (list_any-append (λ x. x == j) others (k ∷ rest)) at (old.noted j o at unkept)));
     }
 
 module _ (m : Map Object) (task : ℕ) (ks : List ℕ) (has : HasTask m task ks) (kept : AreKeptBut [] m) where
   abbrev kills : ℕ → Object → Object
-  kills j o = killed_if (is_within m task j) o
+  kills j o = killed_if (is_within_here m task j) o
 
   -- a job that lost a living child is among them
-  lost : (k : ℕ) → IsTrue (has_living_child m k) → has_living_child (each kills m) k ≡ false → IsTrue (is_among k ks)
-  unfolding has_living_child is_below_by
+  lost : (k : ℕ) → IsTrue (has_living_child_here m k) → has_living_child_here (each kills m) k ≡ false → IsTrue (is_one_of k ks)
+  unfolding has_living_child_here is_below_by
   lost k some none =
       let found : Found (λ e. is_child k e.1.body) m = any_found (λ e. is_child k e.1.body) m kept.in_order some in
-      by_child found.key found.value found.at found.passes (cases_Bool (is_within m task found.key))
+      by_child found.key found.value found.at found.passes (cases_Bool (is_within_here m task found.key))
     where
-      parent : (b : Body) → IsTrue (is_under k b) → parent_of b ≡ k
+      parent : (b : Body) → IsTrue (is_under k b) → parent_held b ≡ k
       parent (body.Job own) h = eqb-true own.parent k h
       parent (body.Process job l) h = eqb-true job k h
       parent _ h = absurd (false≢true h)
 
-      by_way : (c : ℕ) → parent_at m c ≡ k → IsTrue (is_within m task c) → IsTrue (is_among k ks)
+      by_way : (c : ℕ) → parent_at m c ≡ k → IsTrue (is_within_here m task c) → IsTrue (is_one_of k ks)
       by_way c up within =
           let parts = and_parts (not (task == 0)) _ within in
           elim (or_cases (c == task) _ parts.1) [
-            | inl here ↦ ap (λ j. is_among j ks) (sym up ∙ ap (parent_at m) (eqb-true c task here)) ∙ has.above
+            | inl here ↦ ap (λ j. is_one_of j ks) (sym up ∙ ap (parent_at m) (eqb-true c task here)) ∙ has.above
             | inr below ↦ has.within k (and_from (not (task == 0)) _ parts.0 (by_level parts.0
                 (or_cases (parent_at m c == task) (is_below_by m task 15 (parent_at m c)) (and_parts (not (task == 0)) _ below).1)))
           ]
@@ -286,9 +286,9 @@ module _ (m : Map Object) (task : ℕ) (ks : List ℕ) (has : HasTask m task ks)
           by_level away (inr later) = or_right (k == task) _ (and_from (not (task == 0)) _ away
               (one_more_level m task 15 k (ap (is_below_by m task 15) (sym up) ∙ later)))
 
-      by_child : (c : ℕ) (q : Object) → get m c ≡ Some q → IsTrue (is_child k q.body) → IsTrue (is_within m task c) ⊎ (is_within m task c ≡ false)
-          → IsTrue (is_among k ks)
-      by_child c q at child (inl within) = by_way c (ap parent_in at ∙ parent q.body (child_under k q.body child)) within
+      by_child : (c : ℕ) (q : Object) → get m c ≡ Some q → IsTrue (is_child k q.body) → IsTrue (is_within_here m task c) ⊎ (is_within_here m task c ≡ false)
+          → IsTrue (is_one_of k ks)
+      by_child c q at child (inl within) = by_way c (ap parent_found at ∙ parent q.body (child_under k q.body child)) within
       by_child c q at child (inr apart) =
           absurd (false≢true (sym none ∙ any_at (λ e. is_child k e.1.body) (each kills m) c q (get-each m kills c ∙ rw (at, apart) refl) child))
 
@@ -297,11 +297,11 @@ module _ (m : Map Object) (task : ℕ) (ks : List ℕ) (has : HasTask m task ks)
   killed_but others = record {
     in_order = sorted_each kills m ∙ kept.in_order;
     noted = λ k o at unkept. rw (list_any-append (λ x. x == k) others ks)
-        (or_right (is_among k others) _ (by_found k o (get m k) refl (sym (get-each m kills k) ∙ at) unkept));
+        (or_right (is_one_of k others) _ (by_found k o (get m k) refl (sym (get-each m kills k) ∙ at) unkept));
   }
     where
       by_body : (k : ℕ) (named : Bool) (b : Body) → IsTrue (named || stays_alone m k b)
-          → (named || stays_alone (each kills m) k b) ≡ false → IsTrue (is_among k ks)
+          → (named || stays_alone (each kills m) k b) ≡ false → IsTrue (is_one_of k ks)
       by_body k true b h loose = absurd (false≢true (sym loose))
       by_body k false (body.Job own) h loose = lost k h loose
       by_body k false (body.Process job l) h loose = absurd (false≢true (sym loose ∙ h))
@@ -312,9 +312,9 @@ module _ (m : Map Object) (task : ℕ) (ks : List ℕ) (has : HasTask m task ks)
       was_kept k q at false is = absurd (false≢true (kept.noted k q at is))
 
       by_found : (k : ℕ) (o : Object) (q : Option Object) → get m k ≡ q → option_map (kills k) q ≡ Some o → is_kept (each kills m) k o ≡ false
-          → IsTrue (is_among k ks)
+          → IsTrue (is_one_of k ks)
       by_found k o None was at unkept = absurd (none-some o at)
-      by_found k o (Some q) was at unkept = elim (cases_Bool (is_within m task k)) [
+      by_found k o (Some q) was at unkept = elim (cases_Bool (is_within_here m task k)) [
         | inl within ↦ has.within k within
         | inr apart ↦
             let same : q ≡ o = same_Some q o (rw apart at at) in

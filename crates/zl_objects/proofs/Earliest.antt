@@ -1,8 +1,8 @@
 -- The earliest registered wait that holds is found from the objects at which one may.
 use Rattle.zl_objects.proofs.Common.{AreListed, Bool, IfSome, IsTrue, List, Listed, Map, None, NoneHolds, Object, Option, Some, Watch, [], ap, arith}
-use Rattle.zl_objects.proofs.Common.{cases_Bool, earlier, earliest_from, eq-eqb, eqb-true, false, false≢true, find, get, holds, holds_now, if◌then◌else◌, inl}
-use Rattle.zl_objects.proofs.Common.{inr, is_entry_due, list_any, listed_at, listed_value, map, nat_le, nat_tests, next_in, none-some, option_map, order_at}
-use Rattle.zl_objects.proofs.Common.{refl, same_Some, signals_at, sym, take, true, waits_in, ℕ, ◌&&◌, ◌==◌, ◌||◌, ◌∙◌, ◌∷◌, ◌≡◌, ◌≤◌}
+use Rattle.zl_objects.proofs.Common.{cases_Bool, earlier, earliest_from, eq-eqb, eqb-true, false, false≢true, find, get, holds_now, if◌then◌else◌, inl, inr}
+use Rattle.zl_objects.proofs.Common.{is_entry_due, list_any, listed_at, listed_value, map, nat_le, nat_tests, none-some, option_map, order_at, order_found}
+use Rattle.zl_objects.proofs.Common.{refl, same_Some, signals_at, sym, take, true, waits_in, watch_holds, ℕ, ◌&&◌, ◌==◌, ◌||◌, ◌∙◌, ◌∷◌, ◌≡◌, ◌≤◌}
 use Rattle.zl_rights.specs.World.{Wait}
 use Rattle.zl_objects.proofs.Listed.{found_listed}
 use Rattle.zl_objects.proofs.Lists.{any_taken, find_map}
@@ -132,10 +132,10 @@ module _ (m : Map Object) (list : List Listed) (rising : Rises list) (listed : A
       twice None = refl
       twice (Some x) = refl
 
-      by_object : (q : Option Object) → next_in (signals_at m k) q
+      by_object : (q : Option Object) → order_found (signals_at m k) q
           ≡ option_map (λ (x : Listed). x.order) (option_map (listed_at k) (find (λ x. is_due (listed_at k x)) (waits_in q)))
       by_object None = refl
-      by_object (Some o) = twice (find (holds (signals_at m k)) o.signals.waits)
+      by_object (Some o) = twice (find (watch_holds (signals_at m k)) o.signals.waits)
 
   none_due : ((k : ℕ) → order_at m k ≡ None) → find is_due list ≡ None
   none_due none = by_found (find is_due list) refl
@@ -182,9 +182,9 @@ module _ (m : Map Object) (list : List Listed) (rising : Rises list) (listed : A
             by_test true is h later = absurd (false≢true (sym h))
             by_test false is h later = rw is (later h)
 
-        by_object : (q : Option Object) → get m k ≡ q → next_in (signals_at m k) q ≡ None
+        by_object : (q : Option Object) → get m k ≡ q → order_found (signals_at m k) q ≡ None
         by_object None is = refl
-        by_object (Some o) is = none_found (holds (signals_at m k)) o.signals.waits (calm k o is (same k ∙ apart))
+        by_object (Some o) is = none_found (watch_holds (signals_at m k)) o.signals.waits (calm k o is (same k ∙ apart))
 
     abbrev found : Option (ℕ × ℕ)
     found = earliest_from (order_at m) None koids

@@ -1,7 +1,7 @@
 -- Nothing comes to be due at an object that isn't marked, where others have gone.
 use Rattle.zl_objects.proofs.Common.{AreSameButWaits, Body, Bool, Children, IfSome, IsIndexed, IsTrue, KeepsCalm, Map, NO_JOBS, NO_PROCESSES, Object, Some}
 use Rattle.zl_objects.proofs.Common.{TERMINATED, Thins, ap, arith, bit_or, cases_Bool, ending_waits, eqb-true, false, false≢true, get, get-without}
-use Rattle.zl_objects.proofs.Common.{has_job_below, has_key, has_packet, has_process_below, implied, inl, inr, is_child, is_empty, is_job_below}
+use Rattle.zl_objects.proofs.Common.{has_job_below, has_key, has_packet, has_process_below, implied_here, inl, inr, is_child, is_empty, is_job_below_here}
 use Rattle.zl_objects.proofs.Common.{is_process_below, is_watched, is_watched_in, keeper_of, list_any, not, packets_of, peer_of, refl, same_Some, signal_if}
 use Rattle.zl_objects.proofs.Common.{signals_at, sym, unreserved, without, ℕ, ◌==◌, ◌∙◌, ◌≡◌}
 use Rattle.zl_objects.specs.declared.object.Body.TheVariants as body
@@ -26,12 +26,12 @@ module _ {children : Children} (m n : Map Object) (k : ℕ) (gone : Object) (ind
   has_other p apart = has_same (without m k) n same p ∙ rw (get-without m k p, apart) refl
 
   -- the signals of an object are the same, of which it was neither child nor peer
-  implied_left : (j : ℕ) (b : Body) → is_child j gone.body ≡ false → ((p : ℕ) → peer_of b ≡ Some p → (k == p) ≡ false) → implied n j b ≡ implied m j b
+  implied_left : (j : ℕ) (b : Body) → is_child j gone.body ≡ false → ((p : ℕ) → peer_of b ≡ Some p → (k == p) ≡ false) → implied_here n j b ≡ implied_here m j b
   unfolding has_job_below has_process_below
   implied_left j (body.Job own) child peer =
       λ i. bit_or (signal_if TERMINATED own.killed) (bit_or (signal_if NO_JOBS (not (jobs i))) (signal_if NO_PROCESSES (not (processes i))))
     where
-      bare_job : (b : Body) → is_job_below j (unreserved b) ≡ is_job_below j b
+      bare_job : (b : Body) → is_job_below_here j (unreserved b) ≡ is_job_below_here j b
       bare_job (body.Job own) = refl
       bare_job _ = refl
 
@@ -39,9 +39,9 @@ module _ {children : Children} (m n : Map Object) (k : ℕ) (gone : Object) (ind
       bare_process (body.Job own) = refl
       bare_process _ = refl
 
-      jobs : list_any (λ e. is_job_below j e.1.body) n ≡ list_any (λ e. is_job_below j e.1.body) m
-      jobs = any_left (is_job_below j) bare_job
-          (fewer_unmarked (λ i. is_job_below i gone.body) (λ i. is_child i gone.body) (λ i. job_is_child i gone.body) j child)
+      jobs : list_any (λ e. is_job_below_here j e.1.body) n ≡ list_any (λ e. is_job_below_here j e.1.body) m
+      jobs = any_left (is_job_below_here j) bare_job
+          (fewer_unmarked (λ i. is_job_below_here i gone.body) (λ i. is_child i gone.body) (λ i. job_is_child i gone.body) j child)
 
       processes : list_any (λ e. is_process_below j e.1.body) n ≡ list_any (λ e. is_process_below j e.1.body) m
       processes = any_left (is_process_below j) bare_process
@@ -89,7 +89,8 @@ module _ {children : Children} (m n : Map Object) (k : ℕ) (gone : Object) (ind
 
       signals_left : IsTrue (is_watched o) → marked3 j ≡ false → signals_at n j ≡ signals_at m j
       signals_left watched unmarked =
-          let before : implied n j o.body ≡ implied n j thin.before.body = of_body (implied n j) (λ packets reserved. refl) o.body thin.before.body bodies in
+          let before : implied_here n j o.body ≡ implied_here n j thin.before.body =
+          of_body (implied_here n j) (λ packets reserved. refl) o.body thin.before.body bodies in
           let raised : o.signals.raised ≡ thin.before.signals.raised = was.raised ∙ ap (λ (x : Object). x.signals.raised) old in
           rw (at, thin.there) (λ i. bit_or (raised i)
           ((before ∙ implied_left j thin.before.body (no_child watched unmarked) (no_peer watched unmarked)) i))

@@ -1,10 +1,10 @@
 -- The index of what stands below jobs: what it finds, and that it fits the objects after each change.
-use Rattle.zl_objects.proofs.Common.{ArePaired, Body, Bool, Cascades, Children, Err, HasPeer, IfSome, IsIndexed, IsTrue, List, Map, None, Object, Ok, OnErr}
+use Rattle.zl_objects.proofs.Common.{ArePaired, Body, Bool, Cascades, Children, Err, HasPeerHere, IfSome, IsIndexed, IsTrue, List, Map, None, Object, Ok, OnErr}
 use Rattle.zl_objects.proofs.Common.{OnOk, Option, OthersStayListed, Pair, Port, Result, Some, StayListed, Updates, Watch, [], above_of, all_killed, and_from}
 use Rattle.zl_objects.proofs.Common.{and_parts, any-filter_same, ap, arith, at_port, below_all, cases_Bool, contains, each, end_to, ending_waits, eq-eqb}
 use Rattle.zl_objects.proofs.Common.{eqb-true, false, false≢true, filter, get, get-each, get-put, goes, has_key, held_once_less, if◌then◌else◌, inl, inr}
-use Rattle.zl_objects.proofs.Common.{insert_entry, is_alive, is_at, is_child, is_end_body, is_job_below, is_koid, is_lt, is_process_below, is_sorted}
-use Rattle.zl_objects.proofs.Common.{is_sorted-update, is_under, is_within, killed, killed_if, let_go, list_any, list_any-weaker, lists, lookup, nat_cmp}
+use Rattle.zl_objects.proofs.Common.{insert_entry, is_alive, is_at, is_child, is_end_body, is_job_below_here, is_koid, is_lt, is_process_below, is_sorted}
+use Rattle.zl_objects.proofs.Common.{is_sorted-update, is_under, is_within_here, killed, killed_if, let_go, list_any, list_any-weaker, lists, lookup, nat_cmp}
 use Rattle.zl_objects.proofs.Common.{nat_lt, nat_tests, none-some, none_left, not, option_map, or_cases, or_left, or_right, pair_cmp, passes_in, peer_of, put}
 use Rattle.zl_objects.proofs.Common.{range_contains, refl, same_Some, set_value, sorted_put, sorted_without, stopped, sym, true, unsigned_tied, unwatched}
 use Rattle.zl_objects.proofs.Common.{update, waits_end, without, ℕ, ◌&&◌, ◌+◌, ◌-◌, ◌<◌, ◌==◌, ◌^◌, ◌||◌, ◌∙◌, ◌∷◌, ◌≡◌, ◌≤◌, ◌⊎◌}
@@ -107,7 +107,7 @@ any_child test children m job indexed only =
 
 -- ---- what is a child
 
-child_is : (j : ℕ) (b : Body) → is_child j b ≡ (is_job_below j b || is_process_below j b)
+child_is : (j : ℕ) (b : Body) → is_child j b ≡ (is_job_below_here j b || is_process_below j b)
 child_is j (body.Job own) = by_test own.killed
   where
     by_test : (k : Bool) → is_koid j (if k then None else Some own.parent) ≡ (((own.parent == j) && not k) || false)
@@ -120,11 +120,11 @@ child_is j (body.Process job l) = by_test (is_alive l)
     by_test false = grind (arith, nat_tests)
 child_is j _ = refl
 
-pub job_is_child : (j : ℕ) (b : Body) → IsTrue (is_job_below j b) → IsTrue (is_child j b)
-job_is_child j b h = child_is j b ∙ or_left (is_job_below j b) _ h
+pub job_is_child : (j : ℕ) (b : Body) → IsTrue (is_job_below_here j b) → IsTrue (is_child j b)
+job_is_child j b h = child_is j b ∙ or_left (is_job_below_here j b) _ h
 
 pub process_is_child : (j : ℕ) (b : Body) → IsTrue (is_process_below j b) → IsTrue (is_child j b)
-process_is_child j b h = child_is j b ∙ or_right (is_job_below j b) _ h
+process_is_child j b h = child_is j b ∙ or_right (is_job_below_here j b) _ h
 
 -- it makes no child
 abbrev pub MakesNone : (Object → Object) → Type 0
@@ -186,7 +186,7 @@ no_peer (body.ChannelEnd p queue) h = absurd (false≢true (sym h))
 no_peer (body.PairEnd p) h = absurd (false≢true (sym h))
 no_peer _ h = refl
 
-module _ (m : Map Object) (next : ℕ) (peers : (k : ℕ) (q : Object) → get m k ≡ Some q → HasPeer m next q.body) where
+module _ (m : Map Object) (next : ℕ) (peers : (k : ℕ) (q : Object) → get m k ≡ Some q → HasPeerHere m next q.body) where
   not_given : (k later : ℕ) (q : Object) → next ≤ later → get m k ≡ Some q → peer_of q.body ≡ Some later → ⊥
   not_given k later q most at is = false≢true (sym (given_apart m next later q.body most (peers k q at) later is) ∙ eq-eqb later later refl)
 
@@ -278,28 +278,28 @@ module _ {children : Children} where
   pub killed_indexed : {m n : Map Object} (task : ℕ) → IsIndexed children m → n ≡ all_killed m task → IsIndexed children n
   unfolding all_killed
   killed_indexed {m} {n} task indexed is = rw is (record {
-    in_order = sorted_each (λ j. killed_if (is_within m task j)) m ∙ indexed.in_order;
-    listed = λ k j o at child. by_object k j o (get m k) refl (sym (get-each m (λ i. killed_if (is_within m task i)) k) ∙ at) child;
-    paired = still_paired m (each (λ j. killed_if (is_within m task j)) m)
-        (λ k o at. end k o (get m k) refl (sym (get-each m (λ i. killed_if (is_within m task i)) k) ∙ at)) indexed.paired;
+    in_order = sorted_each (λ j. killed_if (is_within_here m task j)) m ∙ indexed.in_order;
+    listed = λ k j o at child. by_object k j o (get m k) refl (sym (get-each m (λ i. killed_if (is_within_here m task i)) k) ∙ at) child;
+    paired = still_paired m (each (λ j. killed_if (is_within_here m task j)) m)
+        (λ k o at. end k o (get m k) refl (sym (get-each m (λ i. killed_if (is_within_here m task i)) k) ∙ at)) indexed.paired;
   })
     where
-      end : (k : ℕ) (o2 : Object) (q : Option Object) → get m k ≡ q → option_map (killed_if (is_within m task k)) q ≡ Some o2
+      end : (k : ℕ) (o2 : Object) (q : Option Object) → get m k ≡ q → option_map (killed_if (is_within_here m task k)) q ≡ Some o2
           → (o : Object) × (get m k ≡ Some o) × (peer_of o2.body ≡ peer_of o.body)
       end k o2 None was at = absurd (none-some o2 at)
       end k o2 (Some o) was at = (
         o,
         was,
-        ap (λ (x : Object). peer_of x.body) (sym (same_Some (killed_if (is_within m task k) o) o2 at))
-            ∙ elim (is_within m task k) as (λ b. peer_of (killed_if b o).body ≡ peer_of o.body) [ true ↦ (killed_same o.body).peer | false ↦ refl ],
+        ap (λ (x : Object). peer_of x.body) (sym (same_Some (killed_if (is_within_here m task k) o) o2 at))
+            ∙ elim (is_within_here m task k) as (λ b. peer_of (killed_if b o).body ≡ peer_of o.body) [ true ↦ (killed_same o.body).peer | false ↦ refl ],
       )
 
-      by_object : (k j : ℕ) (o : Object) (q : Option Object) → get m k ≡ q → option_map (killed_if (is_within m task k)) q ≡ Some o
+      by_object : (k j : ℕ) (o : Object) (q : Option Object) → get m k ≡ q → option_map (killed_if (is_within_here m task k)) q ≡ Some o
           → IsTrue (is_under j o.body) → IsTrue (lists children j k)
       by_object k j o None was at child = absurd (none-some o at)
-      by_object k j o (Some before) was at child = indexed.listed k j before was (ap (is_koid j) (sym (elim (is_within m task k)
+      by_object k j o (Some before) was at child = indexed.listed k j before was (ap (is_koid j) (sym (elim (is_within_here m task k)
           as (λ b. above_of (killed_if b before).body ≡ above_of before.body) [ true ↦ (killed_same before.body).above | false ↦ refl ]))
-          ∙ (ap (λ (x : Object). is_under j x.body) (same_Some (killed_if (is_within m task k) before) o at) ∙ child))
+          ∙ (ap (λ (x : Object). is_under j x.body) (same_Some (killed_if (is_within_here m task k) before) o at) ∙ child))
 
   -- handles went, and what nothing keeps
   pub left_indexed : {m m2 : Map Object} (ks : List ℕ) → IsIndexed children m → Cascades ks m m2 → IsIndexed children m2
@@ -358,7 +358,7 @@ module _ {children children2 : Children} where
 
 -- an end of a channel or of an event pair is no child
 pub pair_indexed : {children : Children} {m n n2 : Map Object} (p : Pair) (handles next : ℕ) (o o2 : Object) → IsIndexed children m
-    → ((j : ℕ) → IsTrue (has_key m j) → j < next) → ((k : ℕ) (q : Object) → get m k ≡ Some q → HasPeer m next q.body)
+    → ((j : ℕ) → IsTrue (has_key m j) → j < next) → ((k : ℕ) (q : Object) → get m k ≡ Some q → HasPeerHere m next q.body)
     → o ≡ end_of p (next + 1) handles → o2 ≡ end_of p next handles → n ≡ insert_entry nat_cmp m next o → n2 ≡ insert_entry nat_cmp n (next + 1) o2
     → IsIndexed children n2
 pair_indexed {children} {m} p handles next o o2 indexed below peers first second into into2 =

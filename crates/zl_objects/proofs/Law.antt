@@ -2,13 +2,13 @@
 use Rattle.zl_objects.proofs.Common.{Agrees, AreKeptBut, AreSameButWaits, Body, Bool, Cascades, ChannelEnd, Entry, IsExact, IsTrue, Koids, LeavesLargest, List}
 use Rattle.zl_objects.proofs.Common.{Map, Message, None, Object, Objects, Option, Process, Releases, Settles, Some, World, and_from, and_parts, ap, arith}
 use Rattle.zl_objects.proofs.Common.{body_value, cases_Bool, cond, count_by, eq-eqb, eqb-true, false, false≢true, flat_map-cons, get, get-without, goes}
-use Rattle.zl_objects.proofs.Common.{has_key, has_key-update, has_living_child, held_once_less, if◌then◌else◌, in_queue, in_table, inl, inr, is_above, is_alive}
-use Rattle.zl_objects.proofs.Common.{is_child, is_held, is_in_job, is_job_at, is_job_body, is_kept, is_koid, is_process, is_process_of, is_some}
-use Rattle.zl_objects.proofs.Common.{is_sorted-update, keeper_of, koids_of, let_go, list_any, lives, map, named_in, nat_lt, nat_tests, none_left, not}
-use Rattle.zl_objects.proofs.Common.{object_entry, object_value, option_map, or_cases, or_left, or_parts, or_right, queue_of, refl, runs, sorted_without}
+use Rattle.zl_objects.proofs.Common.{has_key, has_key-update, has_living_child_here, held_once_less, if◌then◌else◌, in_queue, in_table, inl, inr, is_above}
+use Rattle.zl_objects.proofs.Common.{is_alive, is_child, is_held, is_in_job, is_job_at, is_job_here, is_kept, is_koid, is_process, is_process_of, is_some}
+use Rattle.zl_objects.proofs.Common.{is_sorted-update, keeper_of, koids_in, let_go, list_any, lives, map, named_in, nat_lt, nat_tests, none_left, not}
+use Rattle.zl_objects.proofs.Common.{object_entry, object_value, option_map, or_cases, or_left, or_parts, or_right, queue_held, refl, runs, sorted_without}
 use Rattle.zl_objects.proofs.Common.{stays_alone, subst, sum_by, sum_by-append, sum_by-cons, sym, true, update, waits_end, with_all, with_objects, without, ℕ}
 use Rattle.zl_objects.proofs.Common.{◌&&◌, ◌++◌, ◌+◌, ◌<◌, ◌==◌, ◌||◌, ◌∙◌, ◌∷◌, ◌≡◌, ◌⊎◌}
-use Rattle.zl_rights.proofs.Common.{has_living_child as living_child, queue_of as queue_value, []}
+use Rattle.zl_rights.proofs.Common.{has_living_child, queue_of, []}
 use Rattle.zl_rights.proofs.MapTests.{any_at}
 use Rattle.zl_rights.specs.Counts.{handles_to, queued_to}
 use Rattle.zl_rights.specs.World.{Object as ObjectValue, Body as BodyValue}
@@ -62,13 +62,13 @@ sum_seen n (e ∷ m) = omega (arith, sum_by-cons n (object_entry e) (map object_
 -- ---- counts
 
 -- a queue in which a handle names k counts
-pub queue_named : (k : ℕ) (b : BodyValue) → IsTrue (names k (queue_value b)) → 0 < queued_to k b
+pub queue_named : (k : ℕ) (b : BodyValue) → IsTrue (names k (queue_of b)) → 0 < queued_to k b
 queue_named k (ChannelEnd peer queue) h =
     any_summed (λ m. count_by (λ h. h.koid == k) m.handles) (λ m. list_any (λ h. h.koid == k) m.handles) (λ m. any_counted (λ h. h.koid == k) m.handles) queue h
 queue_named k _ h = absurd (false≢true h)
 
 -- and back
-pub named_queue : (k : ℕ) (b : BodyValue) → names k (queue_value b) ≡ false → ◌≡◌ {A = ℕ} (queued_to k b) 0
+pub named_queue : (k : ℕ) (b : BodyValue) → names k (queue_of b) ≡ false → ◌≡◌ {A = ℕ} (queued_to k b) 0
 named_queue k (ChannelEnd peer queue) h = no_sum queue h
   where
     no_count : (es : List Entry) → list_any (λ (h : Entry). h.koid == k) es ≡ false → ◌≡◌ {A = ℕ} (count_by (λ (h : Entry). h.koid == k) es) 0
@@ -85,23 +85,23 @@ named_queue k (ChannelEnd peer queue) h = no_sum queue h
         omega (arith, sum_by-cons (λ m. count_by (λ h. h.koid == k) m.handles) m ms, no_count m.handles both.0, no_sum ms both.1)
 named_queue k _ h = refl
 
-queue_counts : (k : ℕ) (es : List Entry) → count_by (λ j. j == k) (koids_of es) ≡ count_by (λ (h : Entry). h.koid == k) es
+queue_counts : (k : ℕ) (es : List Entry) → count_by (λ j. j == k) (koids_in es) ≡ count_by (λ (h : Entry). h.koid == k) es
 queue_counts k [] = refl
 queue_counts k (e ∷ es) =
-    omega (arith, sum_by-cons (λ j. cond (j == k) 1 0) e.koid (koids_of es), sum_by-cons (λ (h : Entry). cond (h.koid == k) 1 0) e es, queue_counts k es)
+    omega (arith, sum_by-cons (λ j. cond (j == k) 1 0) e.koid (koids_in es), sum_by-cons (λ (h : Entry). cond (h.koid == k) 1 0) e es, queue_counts k es)
 
 one_queue : (k : ℕ) (ms : List Message) → sum_by (λ (m : Message). count_by (λ (h : Entry). h.koid == k) m.handles) ms ≡ count_by (λ j. j == k) (named_in ms)
 one_queue k [] = refl
-one_queue k (m ∷ ms) = rw (flat_map-cons (λ (x : Message). koids_of x.handles) m ms) (omega (
+one_queue k (m ∷ ms) = rw (flat_map-cons (λ (x : Message). koids_in x.handles) m ms) (omega (
   arith,
   sum_by-cons (λ (x : Message). count_by (λ (h : Entry). h.koid == k) x.handles) m ms,
-  sum_by-append (λ j. cond (j == k) 1 0) (koids_of m.handles) (named_in ms),
+  sum_by-append (λ j. cond (j == k) 1 0) (koids_in m.handles) (named_in ms),
   queue_counts k m.handles,
   one_queue k ms,
 ))
 
 -- what the queue of an object counts, once its handles have left
-queue_moved : (k : ℕ) (b : Body) → queued_to k (body_value b) ≡ count_by (λ j. j == k) (named_in (queue_of b))
+queue_moved : (k : ℕ) (b : Body) → queued_to k (body_value b) ≡ count_by (λ j. j == k) (named_in (queue_held b))
 queue_moved k (body.ChannelEnd peer queue) = one_queue k queue
 queue_moved k _ = refl
 
@@ -191,13 +191,13 @@ module _ (w : World) (ks : List ℕ) (m : Map Object) (exact : IsExact w ks m) w
 
     -- a living child of the job k would keep it
     no_living : (j : ℕ) (q : Object) → get m j ≡ Some q → IsTrue (is_child k q.body) → ⊥
-    unfolding has_living_child
+    unfolding has_living_child_here
     no_living j q at of = by_keeper (keeper_of q.body) (exact.in_jobs j q at) of
       where
-        child : IsTrue (has_living_child m k)
+        child : IsTrue (has_living_child_here m k)
         child = any_at (λ e. is_child k e.1.body) m j q at of
 
-        by_body : (b : Body) → stays_alone m k b ≡ false → IsTrue (is_job_body b) → ⊥
+        by_body : (b : Body) → stays_alone m k b ≡ false → IsTrue (is_job_here b) → ⊥
         by_body (body.Job own) off h = false≢true (sym off ∙ child)
         by_body _ off h = false≢true h
 
@@ -220,7 +220,7 @@ module _ (w : World) (ks : List ℕ) (m : Map Object) (exact : IsExact w ks m) w
           | inr apart ↦ rw (get-without m k job, apart) above
         ]
 
-    pub left_exact : IsExact w (named_in (queue_of o.body) ++ ks) (without m k)
+    pub left_exact : IsExact w (named_in (queue_held o.body) ++ ks) (without m k)
     unfolding handles_to
     left_exact = record {
       in_order = sorted_without m k exact.in_order;
@@ -232,9 +232,9 @@ module _ (w : World) (ks : List ℕ) (m : Map Object) (exact : IsExact w ks m) w
     }
       where
         moved : (j : ℕ) → handles_to (with_objects w m) j + count_by (λ i. i == j) ks
-            ≡ handles_to (with_objects w (without m k)) j + count_by (λ i. i == j) (named_in (queue_of o.body) ++ ks)
+            ≡ handles_to (with_objects w (without m k)) j + count_by (λ i. i == j) (named_in (queue_held o.body) ++ ks)
         moved j =
-            let apart = sum_by-append (λ i. cond (i == j) 1 0) (named_in (queue_of o.body)) ks in
+            let apart = sum_by-append (λ i. cond (i == j) 1 0) (named_in (queue_held o.body)) ks in
             omega (
               arith,
               apart,
@@ -275,7 +275,7 @@ module _ (w : World) (ks : List ℕ) (m : Map Object) (exact : IsExact w ks m) w
         as (λ _. in_queue (with_objects w m) (has_key (map object_entry m)) k ≡ false) [
           | inl some ↦ absurd (omega (
             arith,
-            any_summed (λ e. queued_to k e.1.body) (λ e. has_key (map object_entry m) e.0 && names k (queue_value e.1.body))
+            any_summed (λ e. queued_to k e.1.body) (λ e. has_key (map object_entry m) e.0 && names k (queue_of e.1.body))
                 (λ e h. queue_named k e.1.body (and_parts (has_key (map object_entry m) e.0) _ h).1) (map object_entry m) some,
             none,
           ))
@@ -290,16 +290,16 @@ module _ (w : World) (ks : List ℕ) (m : Map Object) (exact : IsExact w ks m) w
         by_body (body.Process job life) off agrees = sym agrees.running ∙ off
         by_body _ off agrees = agrees
 
-    no_child : living_child (with_objects w m) (has_key (map object_entry m)) k ≡ false
-    unfolding living_child is_process
+    no_child : has_living_child (with_objects w m) (has_key (map object_entry m)) k ≡ false
+    unfolding has_living_child is_process
     no_child =
-        elim (cases_Bool (living_child (with_objects w m) (has_key (map object_entry m)) k))
-        as (λ _. living_child (with_objects w m) (has_key (map object_entry m)) k ≡ false) [ inl some ↦ absurd (found some) | inr not ↦ not ]
+        elim (cases_Bool (has_living_child (with_objects w m) (has_key (map object_entry m)) k))
+        as (λ _. has_living_child (with_objects w m) (has_key (map object_entry m)) k ≡ false) [ inl some ↦ absurd (found some) | inr not ↦ not ]
       where
         test : ℕ × ObjectValue → Bool
         test x = has_key (map object_entry m) x.0 && (is_job_below k x.1.body || (is_process_of k x.1.body && is_process w lives x.0))
 
-        found : IsTrue (living_child (with_objects w m) (has_key (map object_entry m)) k) → ⊥
+        found : IsTrue (has_living_child (with_objects w m) (has_key (map object_entry m)) k) → ⊥
         found some =
             let f : Found (λ e. test (object_entry e)) m = any_found (λ e. test (object_entry e)) m exact.in_order (sym (any_seen test m) ∙ some) in
             no_living f.key f.value f.at (sym (seen_child w k f.key f.value.body (exact.agrees f.key f.value f.at))
@@ -330,7 +330,7 @@ cascaded w _ _ _ exact (let_go k ks m m2 more) =
       leads = λ v settles. subst (λ (os : Map ObjectValue). Settles (record w { objects = os }) v) (update_unseen m k) (later.leads v settles);
     }
 cascaded w _ _ _ exact (goes k o ks m m2 there unkept more) =
-    let later : IsLeft w (without m k) m2 = cascaded w (named_in (queue_of o.body) ++ ks) (without m k) m2 (left_exact w ks m exact k o there unkept) more in
+    let later : IsLeft w (without m k) m2 = cascaded w (named_in (queue_held o.body) ++ ks) (without m k) m2 (left_exact w ks m exact k o there unkept) more in
     record { exact = later.exact; leads = λ v settles. left_leads w ks m exact k o there unkept v (later.leads v settles) }
 cascaded w _ _ _ exact (waits_end ks m mid m2 same more) =
     let later : IsLeft w mid m2 = cascaded w ks mid m2 (same_exact w ks m exact mid same) more in
@@ -349,10 +349,10 @@ module _ (w : World) (m : Map Object) (exact : IsExact w [] m) (kept : (k : ℕ)
 
   -- something keeps the object k in the world
   abbrev IsHeldBy : ℕ → Type 0
-  IsHeldBy k = IsTrue (in_table wm k || in_queue wm all k || is_process wm runs k || living_child wm all k)
+  IsHeldBy k = IsTrue (in_table wm k || in_queue wm all k || is_process wm runs k || has_living_child wm all k)
 
-  child_held : (k : ℕ) → IsTrue (has_living_child m k) → IsTrue (living_child wm all k)
-  unfolding has_living_child living_child is_process
+  child_held : (k : ℕ) → IsTrue (has_living_child_here m k) → IsTrue (has_living_child wm all k)
+  unfolding has_living_child_here has_living_child is_process
   child_held k some =
       let found : Found (λ e. is_child k e.1.body) m = any_found (λ e. is_child k e.1.body) m exact.in_order some in
       let seen : get (map object_entry m) found.key ≡ Some (object_value found.value) = get_seen m found.key ∙ rw found.at refl in
@@ -374,8 +374,8 @@ module _ (w : World) (m : Map Object) (exact : IsExact w [] m) (kept : (k : ℕ)
               or_left _ _ (or_left _ _ (or_left _ _ (summed_any (λ p. count_by (λ h. h.1.koid == k) p.1.handles)
               (λ p. list_any (λ h. h.1.koid == k) p.1.handles) (λ p none. count_none (λ h. h.1.koid == k) p.1.handles none) w.processes tables)))
           by_part (inr queues) =
-              or_left _ _ (or_left _ _ (or_right _ _ (any_there (λ e. names k (queue_value e.1.body)) all (map object_entry m) (λ j there. there)
-              (summed_any (λ e. queued_to k e.1.body) (λ e. names k (queue_value e.1.body)) (λ e none. named_queue k e.1.body none)
+              or_left _ _ (or_left _ _ (or_right _ _ (any_there (λ e. names k (queue_of e.1.body)) all (map object_entry m) (λ j there. there)
+              (summed_any (λ e. queued_to k e.1.body) (λ e. names k (queue_of e.1.body)) (λ e none. named_queue k e.1.body none)
               (map object_entry m) queues))))
 
           alone : (b : Body) → o.body ≡ b → IsTrue (stays_alone m k b) → IsHeldBy k

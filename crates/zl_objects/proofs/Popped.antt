@@ -1,9 +1,9 @@
 -- What is left once the newest object was taken back, which was no end, and at which nothing was registered.
-use Rattle.zl_objects.proofs.Common.{All-weaker, BTreeMap, Body, Bool, Children, HasPeerOf, IfSome, IsAtRest, IsCalm, IsIndexed, IsSome, IsSteady, IsTrue}
+use Rattle.zl_objects.proofs.Common.{All-weaker, BTreeMap, Body, Bool, Children, IfSome, IsAtRest, IsCalm, IsIndexed, IsPeerHere, IsSome, IsSteady, IsTrue}
 use Rattle.zl_objects.proofs.Common.{IsUpperBound, IsWhole, List, Listed, Map, None, Object, Option, OthersStayListed, Sleeper, Some, [], and_parts, ap, arith}
 use Rattle.zl_objects.proofs.Common.{below_all, cases_Bool, ending_waits, ends_waits, eq-eqb, eqb-true, false, false≢true, get, get-without, has_key}
 use Rattle.zl_objects.proofs.Common.{if◌then◌else◌, inl, inr, is_alive, is_at, is_end_at, is_end_body, is_lt, is_marked, is_sorted, is_watched_in, keeper_of}
-use Rattle.zl_objects.proofs.Common.{kind_in, koid_of, length, length-append, lookup, nat_cmp, nat_tests, none-some, parent_at, parent_of, peer_of, refl}
+use Rattle.zl_objects.proofs.Common.{kind_in, koid_of, length, length-append, lookup, nat_cmp, nat_tests, none-some, parent_at, parent_held, peer_of, refl}
 use Rattle.zl_objects.proofs.Common.{reserved_in, sorted_parts, sym, true, unsigned_tied, waits_in, without, ℕ, ◌++◌, ◌+◌, ◌<◌, ◌==◌, ◌↔◌, ◌∙◌, ◌∷◌, ◌≡◌, ◌⊎◌}
 use Rattle.zl_objects.specs.declared.marks.Marks.{Marks}
 use Rattle.zl_objects.specs.declared.object.Body.TheVariants as body
@@ -52,7 +52,7 @@ newest_out m n next koid (Some p) sorted below newest there some value greatest 
 
 -- ---- the invariant
 
-keeper_is : (P : ℕ → Type 0) (b : Body) → P (parent_of b) → IfSome (keeper_of b) P
+keeper_is : (P : ℕ → Type 0) (b : Body) → P (parent_held b) → IfSome (keeper_of b) P
 keeper_is P (body.Job own) h = elim own.killed as (λ b. IfSome (if b then None else Some own.parent) P) [ true ↦ tt | false ↦ h ]
 keeper_is P (body.Process job l) h = elim (is_alive l) as (λ b. IfSome (if b then Some job else None) P) [ true ↦ h | false ↦ tt ]
 keeper_is P _ h = tt
@@ -81,17 +81,17 @@ module _ {children : Children} (m n : Map Object) (koid : ℕ) (o : Object) (at 
       below j there (inl here) = absurd (false≢true (rw (left, get-without m koid j, here) at there))
       below j there (inr apart) = below_newest next j newest (whole.below j (rw (same_left j apart) at there)) apart
 
-      by_peer : (j : ℕ) (q : Object) → get m j ≡ Some q → (x : Option ℕ) → peer_of q.body ≡ x → IfSome x (HasPeerOf (kind_in q.body) m next)
-          → IfSome x (HasPeerOf (kind_in q.body) n koid)
+      by_peer : (j : ℕ) (q : Object) → get m j ≡ Some q → (x : Option ℕ) → peer_of q.body ≡ x → IfSome x (IsPeerHere (kind_in q.body) m next)
+          → IfSome x (IsPeerHere (kind_in q.body) n koid)
       by_peer j q was None is has = tt
-      by_peer j q was (Some p) is has = elim (cases_Bool (koid == p)) as (λ _. HasPeerOf (kind_in q.body) n koid p) [
+      by_peer j q was (Some p) is has = elim (cases_Bool (koid == p)) as (λ _. IsPeerHere (kind_in q.body) n koid p) [
         | inl here ↦ absurd (none-some j (sym (no_peer o.body alone)
             ∙ indexed.paired j koid q o was at (is ∙ ap (λ (i : ℕ). Some i) (sym (eqb-true koid p here)))))
         | inr apart ↦ (below_newest next p newest has.0 apart, λ there. rw (same_left p apart) (has.1 (rw (same_left p apart) at there)))
       ]
 
   popped_calm : {marked marked2 : ℕ → Bool} {sleepers : List Sleeper} → ((j : ℕ) → IsTrue (marked j) → IsTrue (marked2 j)) → (next : ℕ) → next ≡ koid + 1
-      → o.asleep ≡ false → (IsTrue (is_watched_in (get n (parent_of o.body))) → IsTrue (marked2 (parent_of o.body))) → IsCalm marked m next sleepers
+      → o.asleep ≡ false → (IsTrue (is_watched_in (get n (parent_held o.body))) → IsTrue (marked2 (parent_held o.body))) → IsCalm marked m next sleepers
       → IsCalm marked2 n koid sleepers
   popped_calm {marked} {marked2} {sleepers} more next newest unslept job calm =
       let after : IsCalm marked2 n next sleepers =

@@ -1,9 +1,9 @@
 -- What is left of the objects once handles have gone: each as it was, and the invariant holds.
-use Rattle.zl_objects.proofs.Common.{AreKeptBut, Body, Bool, Cascades, HasPeer, HasPeerOf, HavePlaces, IsTrue, IsWhole, KeepsWaits, Kind, LetsGo, List, Map}
-use Rattle.zl_objects.proofs.Common.{None, Object, Objects, Option, Releases, Sleeper, Some, Thins, [], ap, append-nil, append_assoc, arith, body_value, budget}
-use Rattle.zl_objects.proofs.Common.{cases_Bool, cond, count_by, count_by-le-length, false, false≢true, get, goes, has_key, has_living_child, held_once_less}
-use Rattle.zl_objects.proofs.Common.{if◌then◌else◌, inl, inr, is_alive, is_child, is_kept, is_koid, is_named, is_some, is_sorted-update, job_in, job_of}
-use Rattle.zl_objects.proofs.Common.{kind_at, kind_in, length, length-update, let_go, list_any, named_in, none_left, or_left, or_right, queue_of}
+use Rattle.zl_objects.proofs.Common.{AreKeptBut, Body, Bool, Cascades, HasPeerHere, HavePlaces, IsPeerHere, IsTrue, IsWhole, KeepsWaits, Kind, LetsGo, List}
+use Rattle.zl_objects.proofs.Common.{Map, None, Object, Objects, Option, Releases, Sleeper, Some, Thins, [], ap, append-nil, append_assoc, arith, body_value}
+use Rattle.zl_objects.proofs.Common.{budget, cases_Bool, cond, count_by, count_by-le-length, false, false≢true, get, goes, has_key, has_living_child_here}
+use Rattle.zl_objects.proofs.Common.{held_once_less, if◌then◌else◌, inl, inr, is_alive, is_child, is_kept, is_koid, is_named, is_some, is_sorted-update, job_in}
+use Rattle.zl_objects.proofs.Common.{job_of, kind_here, kind_in, length, length-update, let_go, list_any, named_in, none_left, or_left, or_right, queue_held}
 use Rattle.zl_objects.proofs.Common.{refl, same_Some, stays_alone, stopped, stopped_body, stopping, subst, sym, true, unreserved, update, waits_end, without, ℕ}
 use Rattle.zl_objects.proofs.Common.{◌++◌, ◌<◌, ◌==◌, ◌||◌, ◌∙◌, ◌∷◌, ◌≡◌, ◌≤◌, ◌⊎◌}
 use Rattle.zl_rights.specs.World.{Wait}
@@ -36,8 +36,8 @@ module _ (m : Map Object) (k : ℕ) (o : Object) (was : Was m k o) where
   pub was_seen : body_value o.body ≡ body_value was.before.body
   was_seen = of_body body_value (λ packets reserved. refl) o.body was.before.body was.body
 
-  pub was_queue : queue_of o.body ≡ queue_of was.before.body
-  was_queue = of_body queue_of (λ packets reserved. refl) o.body was.before.body was.body
+  pub was_queue : queue_held o.body ≡ queue_held was.before.body
+  was_queue = of_body queue_held (λ packets reserved. refl) o.body was.before.body was.body
 
 less_was : (m : Map Object) (k j : ℕ) (o : Object) → Was (update m k held_once_less) j o → Was m j o
 less_was m k j o was =
@@ -102,26 +102,26 @@ whole_left ks m m2 next room room2 d d2 cascades places whole none same = record
     by_object k None is there = absurd (false≢true there)
     by_object k (Some o) is there = whole.below k (rw (was k o is).there refl)
 
-    kind_left : (kind : Kind) (p : ℕ) (o : Option Object) → get m2 p ≡ o → HasPeerOf kind m next p → IsTrue (is_some o) → kind_at m2 p ≡ Some kind
+    kind_left : (kind : Kind) (p : ℕ) (o : Option Object) → get m2 p ≡ o → IsPeerHere kind m next p → IsTrue (is_some o) → kind_here m2 p ≡ Some kind
     kind_left kind p None is has there = absurd (false≢true there)
     kind_left kind p (Some o) is has there =
         let old : Was m p o = was p o is in
-        let was_kind : kind_at m p ≡ Some kind = has.1 (rw old.there refl) in
+        let was_kind : kind_here m p ≡ Some kind = has.1 (rw old.there refl) in
         rw is (ap Some (of_body kind_in (λ packets reserved. refl) o.body old.before.body old.body) ∙ (rw old.there at was_kind))
 
-    left : (b : Body) → HasPeer m next b → HasPeer m2 next b
+    left : (b : Body) → HasPeerHere m next b → HasPeerHere m2 next b
     left b = peer_stays m m2 next next b (λ p has. (has.0, λ there. kind_left (kind_in b) p (get m2 p) refl has there))
 
-    peers : (k : ℕ) (o : Object) → get m2 k ≡ Some o → HasPeer m2 next o.body
+    peers : (k : ℕ) (o : Object) → get m2 k ≡ Some o → HasPeerHere m2 next o.body
     peers k o at =
         let old : Was m k o = was k o at in
-        from_bare o.body (subst (HasPeer m2 next) (sym old.body) (to_bare old.before.body (left old.before.body (whole.peers k old.before old.there))))
+        from_bare o.body (subst (HasPeerHere m2 next) (sym old.body) (to_bare old.before.body (left old.before.body (whole.peers k old.before old.there))))
       where
-        to_bare : (b : Body) → HasPeer m2 next b → HasPeer m2 next (unreserved b)
+        to_bare : (b : Body) → HasPeerHere m2 next b → HasPeerHere m2 next (unreserved b)
         to_bare (body.Job own) h = h
         to_bare _ h = h
 
-        from_bare : (b : Body) → HasPeer m2 next (unreserved b) → HasPeer m2 next b
+        from_bare : (b : Body) → HasPeerHere m2 next (unreserved b) → HasPeerHere m2 next b
         from_bare (body.Job own) h = h
         from_bare _ h = h
 
@@ -189,8 +189,8 @@ pub cascades_then : (ks ls : List ℕ) (m m2 m3 : Map Object) → Cascades ks m 
 cascades_then _ ls _ _ m3 (none_left m) later = later
 cascades_then _ ls _ _ m3 (let_go k ks m m2 more) later = let_go k (ks ++ ls) m m3 (cascades_then ks ls (update m k held_once_less) m2 m3 more later)
 cascades_then _ ls _ _ m3 (goes k o ks m m2 there unkept more) later =
-    goes k o (ks ++ ls) m m3 there unkept (subst (λ (all : List ℕ). Cascades all (without m k) m3) (append_assoc (named_in (queue_of o.body)) ks ls)
-    (cascades_then (named_in (queue_of o.body) ++ ks) ls (without m k) m2 m3 more later))
+    goes k o (ks ++ ls) m m3 there unkept (subst (λ (all : List ℕ). Cascades all (without m k) m3) (append_assoc (named_in (queue_held o.body)) ks ls)
+    (cascades_then (named_in (queue_held o.body) ++ ks) ls (without m k) m2 m3 more later))
 cascades_then _ ls _ _ m3 (waits_end ks m mid m2 same more) later = waits_end (ks ++ ls) m mid m3 same (cascades_then ks ls mid m2 m3 more later)
 
 -- handles go one after another
@@ -205,8 +205,8 @@ releases_then ks ls loose r r2 r3 first later = record {
 module _ (r : Objects) (pid job : ℕ) (of : job_in (get r.objects pid) ≡ Some job) where
   -- another job has no living child less
   other_child : (k : ℕ) → (job == k) ≡ false → (m : Map Object) → job_in (get m pid) ≡ Some job
-      → has_living_child (update m pid stopped) k ≡ has_living_child m k
-  unfolding get update has_living_child
+      → has_living_child_here (update m pid stopped) k ≡ has_living_child_here m k
+  unfolding get update has_living_child_here
   other_child k apart [] is = refl
   other_child k apart (e ∷ m) is =
       elim (cases_Bool (e.0 == pid)) as (λ _. list_any (λ x. is_child k x.1.body) (update (e ∷ m) pid stopped) ≡ list_any (λ x. is_child k x.1.body) (e ∷ m)) [

@@ -1,9 +1,9 @@
 -- What the objects show of active signals.
 use Rattle.zl_objects.proofs.Common.{AreActive, Body, Bool, IsTrue, Map, NO_JOBS, NO_PROCESSES, None, Object, Option, ShowStates, Shows, Some, TERMINATED}
 use Rattle.zl_objects.proofs.Common.{World, [], active, ap, bit_or, body_value, get, has_child_job, has_child_process, has_job_below, has_process_below}
-use Rattle.zl_objects.proofs.Common.{implied, is_job_below, is_process, is_process_below, is_process_of, list_any, lives, not, refl, signal_if, signals_at}
-use Rattle.zl_objects.proofs.Common.{signals_in, subst, sym, with_objects, ℕ, ◌&&◌, ◌==◌, ◌||◌, ◌∙◌, ◌∷◌, ◌≡◌}
-use Rattle.zl_rights.specs.Signals.{implied as implied_in, is_job_below as is_job_of}
+use Rattle.zl_objects.proofs.Common.{implied_here, is_job_below_here, is_process, is_process_below, is_process_of, list_any, lives, not, refl, signal_if}
+use Rattle.zl_objects.proofs.Common.{signals_at, signals_in, subst, sym, with_objects, ℕ, ◌&&◌, ◌==◌, ◌||◌, ◌∙◌, ◌∷◌, ◌≡◌}
+use Rattle.zl_rights.specs.Signals.{implied, is_job_below}
 use Rattle.zl_objects.specs.declared.object.Body.TheVariants as body
 use Rattle.zl_objects.proofs.Found.{Found, any_found}
 use Rattle.zl_objects.proofs.Law.{get_seen, has_seen, any_seen}
@@ -14,13 +14,13 @@ module _ (w : World) (m : Map Object) (shows : ShowStates w m) (k : ℕ) where
   -- a living job stands below the job k where the objects say so
   pub job_shown : has_child_job (with_objects w m) k ≡ has_job_below m k
   unfolding has_child_job has_job_below
-  job_shown = any_seen (λ e. is_job_of k e.1.body) m ∙ each_same m
+  job_shown = any_seen (λ e. is_job_below k e.1.body) m ∙ each_same m
     where
-      by_body : (b : Body) → is_job_of k (body_value b) ≡ is_job_below k b
+      by_body : (b : Body) → is_job_below k (body_value b) ≡ is_job_below_here k b
       by_body (body.Job own) = refl
       by_body _ = refl
 
-      each_same : (n : Map Object) → list_any (λ e. is_job_of k (body_value e.1.body)) n ≡ list_any (λ e. is_job_below k e.1.body) n
+      each_same : (n : Map Object) → list_any (λ e. is_job_below k (body_value e.1.body)) n ≡ list_any (λ e. is_job_below_here k e.1.body) n
       each_same [] = refl
       each_same (e ∷ n) = λ i. by_body e.1.body i || each_same n i
 
@@ -52,7 +52,7 @@ module _ (w : World) (m : Map Object) (shows : ShowStates w m) (k : ℕ) where
           let f : Found below m = any_found below m shows.in_order some in
           any_at seen m f.key f.value f.at (same f.key f.value f.value.body refl f.at ∙ f.passes)
 
-  implied_shown : (o : Object) (b : Body) → o.body ≡ b → get m k ≡ Some o → implied m k b ≡ implied_in (with_objects w m) k (body_value b)
+  implied_shown : (o : Object) (b : Body) → o.body ≡ b → get m k ≡ Some o → implied_here m k b ≡ implied (with_objects w m) k (body_value b)
   unfolding is_process
   implied_shown o (body.Job own) is at =
       λ i. bit_or (signal_if TERMINATED own.killed) (bit_or (signal_if NO_JOBS (not (sym job_shown i))) (signal_if NO_PROCESSES (not (sym process_shown i))))

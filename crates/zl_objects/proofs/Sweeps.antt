@@ -1,9 +1,9 @@
 -- A sweep that goes from koid to koid and leaves what something keeps.
-use Rattle.zl_objects.proofs.Common.{AreKeptBut, Bool, Cascades, HavePlaces, IsLeastFrom, IsNext, IsTrue, LetsGo, List, Map, None, Object, Some, Thins}
-use Rattle.zl_objects.proofs.Common.{[], all_killed, all_koids, ap, append-nil, arith, budget, cases_Bool, count_by, each, eqb-true, false, false≢true, filter}
-use Rattle.zl_objects.proofs.Common.{get, has_key, if◌then◌else◌, inl, inr, is_kept, is_named, is_sorted, is_within, killed_if, length, list_any, map}
-use Rattle.zl_objects.proofs.Common.{nat_cmp, nat_lt, nat_tests, none-some, none_left, or_cases, or_left, or_right, refl, sym, true, ℕ, ◌++◌, ◌+◌, ◌<◌, ◌==◌}
-use Rattle.zl_objects.proofs.Common.{◌∙◌, ◌∷◌, ◌≡◌, ◌≤◌}
+use Rattle.zl_objects.proofs.Common.{AreKeptBut, Bool, Cascades, HavePlaces, IsLeastFrom, IsNext, IsTrue, LetsGo, List, Map, None, Object, Some, Thins, []}
+use Rattle.zl_objects.proofs.Common.{all_killed, all_koids, ap, append-nil, arith, budget, cases_Bool, count_by, each, eqb-true, false, false≢true, filter, get}
+use Rattle.zl_objects.proofs.Common.{has_key, if◌then◌else◌, inl, inr, is_kept, is_named, is_sorted, is_within_here, killed_if, length, list_any, map, nat_cmp}
+use Rattle.zl_objects.proofs.Common.{nat_lt, nat_tests, none-some, none_left, or_cases, or_left, or_right, refl, sym, true, ℕ, ◌++◌, ◌+◌, ◌<◌, ◌==◌, ◌∙◌, ◌∷◌}
+use Rattle.zl_objects.proofs.Common.{◌≡◌, ◌≤◌}
 use Rattle.zl_objects.proofs.Budget.{none_went, noted_last, noted_left, thin_then}
 use Rattle.zl_objects.proofs.Released.{cascaded_named, cascaded_shorter, cascaded_was, was_there}
 
@@ -118,7 +118,7 @@ module _ (m m2 : Map Object) (from : ℕ) (sweeps : Sweeps from m m2) where
 -- a kill leaves the koids
 pub killed_koids : (m : Map Object) (task : ℕ) → all_koids (all_killed m task) ≡ all_koids m
 unfolding all_killed each
-killed_koids m task = same (λ j. killed_if (is_within m task j)) m
+killed_koids m task = same (λ j. killed_if (is_within_here m task j)) m
   where
     same : (f : ℕ → Object → Object) (n : Map Object) → map (λ (e : ℕ × Object). e.0) (each f n) ≡ map (λ (e : ℕ × Object). e.0) n
     same f [] = refl

@@ -1,9 +1,9 @@
 -- The invariant of the objects, once jobs and processes were started, killed or given a policy.
-use Rattle.zl_objects.proofs.Common.{Body, Bool, Condition, Err, HasPeer, HavePlaces, IsKept, IsWhole, List, Listed, Map, None, Object, Ok, OnErr, OnOk, Option}
-use Rattle.zl_objects.proofs.Common.{Result, Some, [], all_killed, ap, arith, each, false, get, get-each, has_key, is_at, is_some, is_within, killed_body}
-use Rattle.zl_objects.proofs.Common.{killed_if, kind_at, kind_in, length, lookup, nat_cmp, none-some, option_map, refl, reserved_in, same_Some, set_value}
-use Rattle.zl_objects.proofs.Common.{started, started_body, subst, suc, sum_by-cons, sym, true, update, waits_at, waits_for, waits_in, with_policy_body}
-use Rattle.zl_objects.proofs.Common.{with_policy_set, ℕ, ◌∙◌, ◌∷◌, ◌≡◌}
+use Rattle.zl_objects.proofs.Common.{Body, Bool, Condition, Err, HasPeerHere, HavePlaces, IsKept, IsWhole, List, Listed, Map, None, Object, Ok, OnErr, OnOk}
+use Rattle.zl_objects.proofs.Common.{Option, Result, Some, [], all_killed, ap, arith, each, false, get, get-each, has_key, is_at, is_some, is_within_here}
+use Rattle.zl_objects.proofs.Common.{killed_body, killed_if, kind_here, kind_in, length, lookup, nat_cmp, none-some, option_map, refl, reserved_in, same_Some}
+use Rattle.zl_objects.proofs.Common.{set_value, started, started_body, subst, suc, sum_by-cons, sym, true, update, waits_at, waits_for, waits_in}
+use Rattle.zl_objects.proofs.Common.{with_policy_body, with_policy_set, ℕ, ◌∙◌, ◌∷◌, ◌≡◌}
 use Rattle.zl_rights.specs.declared.policy.Action.{Action}
 use Rattle.zl_objects.specs.declared.object.Body.TheVariants as body
 use Rattle.zl_objects.proofs.ByKoid.{written, written_back}
@@ -94,10 +94,10 @@ module _ (kills : ℕ → Bool) where
   has_each : (m : Map Object) (k : ℕ) → has_key (each f m) k ≡ has_key m k
   has_each = seen_each (λ o. is_some o) (λ j o. refl)
 
-  kind_each : (m : Map Object) (k : ℕ) → kind_at (each f m) k ≡ kind_at m k
+  kind_each : (m : Map Object) (k : ℕ) → kind_here (each f m) k ≡ kind_here m k
   kind_each = seen_each (option_map (λ (o : Object). kind_in o.body)) (λ j o. ap Some (stays j o).kind)
 
-  still : (m : Map Object) (next : ℕ) (b : Body) → HasPeer m next b → HasPeer (each f m) next b
+  still : (m : Map Object) (next : ℕ) (b : Body) → HasPeerHere m next b → HasPeerHere (each f m) next b
   still m next b = peer_stays m (each f m) next next b (λ p has. (has.0, λ there. kind_each m p ∙ has.1 (sym (has_each m p) ∙ there)))
 
   each_whole : (m : Map Object) (next room : ℕ) (d : List ℕ) → IsWhole None m next d room → IsWhole None (each f m) next d room
@@ -109,10 +109,10 @@ module _ (kills : ℕ → Bool) where
     none = whole.none;
   }
     where
-      by_object : (k : ℕ) (o : Object) (q : Option Object) → get m k ≡ q → option_map (f k) (get m k) ≡ Some o → HasPeer (each f m) next o.body
+      by_object : (k : ℕ) (o : Object) (q : Option Object) → get m k ≡ q → option_map (f k) (get m k) ≡ Some o → HasPeerHere (each f m) next o.body
       by_object k o None is read = absurd (none-some o (rw is at read))
       by_object k o (Some q) is read =
-          subst (λ (x : Object). HasPeer (each f m) next x.body) (same_Some (f k q) o (rw is at read))
+          subst (λ (x : Object). HasPeerHere (each f m) next x.body) (same_Some (f k q) o (rw is at read))
           (still m next (f k q).body (rw ((stays k q).kind, (stays k q).peer) (whole.peers k q is)))
 
       places : HavePlaces (each f m)
@@ -130,4 +130,4 @@ module _ (kills : ℕ → Bool) where
 pub killed_kept : {waits : List Listed} (m n : Map Object) (next room task : ℕ) (d : List ℕ) → IsKept None m next d room waits → n ≡ all_killed m task
     → IsKept None n next d room waits
 unfolding all_killed
-killed_kept m n next room task d kept is = rw is (each_kept (is_within m task) m next room d kept)
+killed_kept m n next room task d kept is = rw is (each_kept (is_within_here m task) m next room d kept)

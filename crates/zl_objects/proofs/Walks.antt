@@ -1,9 +1,9 @@
 -- Going through the objects by koid.
 use Rattle.zl_objects.proofs.Common.{AllByRecursion, BTreeMap, Body, Bool, IsLeastFrom, IsNext, IsRangeOf, IsStrictlySortedBy, IsTrue, List, Map, None, Object}
 use Rattle.zl_objects.proofs.Common.{Option, Some, [], all_killed, ap, arith, cases_Bool, each, eq-eqb, eqb-true, false, false≢true, get, get-each, has_key}
-use Rattle.zl_objects.proofs.Common.{if◌then◌else◌, inl, inr, is_gt, is_some, is_within, keys_of, killed_body, killed_if, nat_cmp, nat_lt, nat_tests, not}
-use Rattle.zl_objects.proofs.Common.{option_map, parent_at, parent_in, parent_of, refl, subst, sym, true, true≢false, unsigned_tied, update, ℕ, ◌&&◌, ◌+◌, ◌<◌}
-use Rattle.zl_objects.proofs.Common.{◌==◌, ◌||◌, ◌∙◌, ◌∷◌, ◌≡◌, ◌≤◌}
+use Rattle.zl_objects.proofs.Common.{if◌then◌else◌, inl, inr, is_gt, is_some, is_within_here, keys_of, killed_body, killed_if, nat_cmp, nat_lt, nat_tests, not}
+use Rattle.zl_objects.proofs.Common.{option_map, parent_at, parent_found, parent_held, refl, subst, sym, true, true≢false, unsigned_tied, update, ℕ, ◌&&◌, ◌+◌}
+use Rattle.zl_objects.proofs.Common.{◌<◌, ◌==◌, ◌||◌, ◌∙◌, ◌∷◌, ◌≡◌, ◌≤◌}
 use Rattle.std.specs.declared.cmp.Ordering.TheVariants.{Less}
 use Rattle.std.specs.declared.ops.Bound.TheVariants.{Included, Unbounded}
 use Rattle.zl_objects.specs.declared.object.Body.TheVariants as body
@@ -137,32 +137,32 @@ module _ (f : ℕ → Object → Object) where
 
 -- what a kill of the task makes of k
 abbrev pub kills : Map Object → ℕ → ℕ → Object → Object
-kills m task k o = killed_if (is_within m task k) o
+kills m task k o = killed_if (is_within_here m task k) o
 
-pub if_stays : (wanted : Bool) (o : Object) → parent_of (killed_if wanted o).body ≡ parent_of o.body
+pub if_stays : (wanted : Bool) (o : Object) → parent_held (killed_if wanted o).body ≡ parent_held o.body
 if_stays false o = refl
 if_stays true o = killed_stays o.body
   where
-    killed_stays : (b : Body) → parent_of (killed_body b) ≡ parent_of b
+    killed_stays : (b : Body) → parent_held (killed_body b) ≡ parent_held b
     killed_stays (body.Job own) = refl
     killed_stays _ = refl
 
 -- whoever is among the killed stays so where jobs and processes stay where they are
-pub same_within : (f : ℕ → Object → Object) → ((j : ℕ) (o : Object) → parent_of (f j o).body ≡ parent_of o.body) → (m : Map Object) (task k : ℕ)
-    → is_within (each f m) task k ≡ is_within m task k
+pub same_within : (f : ℕ → Object → Object) → ((j : ℕ) (o : Object) → parent_held (f j o).body ≡ parent_held o.body) → (m : Map Object) (task k : ℕ)
+    → is_within_here (each f m) task k ≡ is_within_here m task k
 same_within f stays m task k = ap (λ b. not (task == 0) && ((k == task) || (not (task == 0) && b))) (same_below (each f m) m task parent 16 k)
   where
-    by_found : (j : ℕ) (o : Option Object) → parent_in (option_map (f j) o) ≡ parent_in o
+    by_found : (j : ℕ) (o : Option Object) → parent_found (option_map (f j) o) ≡ parent_found o
     by_found j None = refl
     by_found j (Some o) = stays j o
 
     parent : (j : ℕ) → parent_at (each f m) j ≡ parent_at m j
-    parent j = ap parent_in (get-each m f j) ∙ by_found j (get m j)
+    parent j = ap parent_found (get-each m f j) ∙ by_found j (get m j)
 
-till_stays : (m : Map Object) (task from j : ℕ) (o : Object) → parent_of (till from (kills m task) j o).body ≡ parent_of o.body
+till_stays : (m : Map Object) (task from j : ℕ) (o : Object) → parent_held (till from (kills m task) j o).body ≡ parent_held o.body
 till_stays m task from j o =
     elim (nat_lt j from)
-    as (λ t. parent_of (if t then kills m task j o else o).body ≡ parent_of o.body) [ true ↦ if_stays (is_within m task j) o | false ↦ refl ]
+    as (λ t. parent_held (if t then kills m task j o else o).body ≡ parent_held o.body) [ true ↦ if_stays (is_within_here m task j) o | false ↦ refl ]
 
 -- nothing is killed before the first koid
 pub kill_begins : (m : Map Object) (task : ℕ) → m ≡ each (till 0 (kills m task)) m
@@ -170,10 +170,10 @@ kill_begins m task = sym (none_yet (kills m task) m 0 (λ j there. omega arith))
 
 -- one koid more
 pub kill_goes_on : (m now new : Map Object) (task from k : ℕ) (within : Bool) → now ≡ each (till from (kills m task)) m
-    → IsStrictlySortedBy nat_cmp (keys_of now) → IsLeastFrom now from k → within ≡ is_within now task k → new ≡ update now k (killed_if within)
+    → IsStrictlySortedBy nat_cmp (keys_of now) → IsLeastFrom now from k → within ≡ is_within_here now task k → new ≡ update now k (killed_if within)
     → new ≡ each (till (k + 1) (kills m task)) m
 kill_goes_on m now new task from k within is sorted next one set =
-    set ∙ (ap (λ b. update now k (killed_if b)) (one ∙ (ap (λ n. is_within n task k) is
+    set ∙ (ap (λ b. update now k (killed_if b)) (one ∙ (ap (λ n. is_within_here n task k) is
     ∙ same_within (till from (kills m task)) (till_stays m task from) m task k))
     ∙ (ap (λ n. update n k (kills m task k)) is
     ∙ one_done (kills m task) m from k (subst (IsStrictlySortedBy nat_cmp) (ap (λ n. keys_of n) is ∙ keys-each (kills m task) m from) sorted) (record {

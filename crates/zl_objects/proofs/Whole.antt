@@ -1,12 +1,12 @@
 -- The invariant of the objects, after each change.
-use Rattle.zl_objects.proofs.Common.{Body, Bool, Err, HasPeer, HasPeerOf, HavePlaces, HavePlacesWith, IsTrue, IsWhole, List, Map, Message, None, Object, Ok}
-use Rattle.zl_objects.proofs.Common.{OnErr, OnOk, Option, Pair, Port, Result, SignalState, Some, Watch, [], above_of, ap, arith, at_port, cases_Bool}
+use Rattle.zl_objects.proofs.Common.{Body, Bool, Err, HasPeerHere, HavePlaces, HavePlacesWith, IsPeerHere, IsTrue, IsWhole, List, Map, Message, None, Object}
+use Rattle.zl_objects.proofs.Common.{Ok, OnErr, OnOk, Option, Pair, Port, Result, SignalState, Some, Watch, [], above_of, ap, arith, at_port, cases_Bool}
 use Rattle.zl_objects.proofs.Common.{changed_port, count_by, end_to, eq-eqb, false, false≢true, find, get, get-put, get-update, has_key, has_key-update}
 use Rattle.zl_objects.proofs.Common.{held_once_less, held_once_more, if◌then◌else◌, inl, inr, insert_entry, is_at, is_at_port, is_end_body, is_err, is_port_at}
-use Rattle.zl_objects.proofs.Common.{kind_at, kind_in, kind_of_pair, length, length-append, length-update, lookup, nat_cmp, nat_lt, nat_tests}
-use Rattle.zl_objects.proofs.Common.{new_object, none-some, option_map, peer_of, put, put_key, raised_changed, received, received_body, refl, remove_entry}
-use Rattle.zl_objects.proofs.Common.{reserved_of, same_Some, sent, sent_body, set_value, slept, stopped, stopped_body, subst, sym, true, unsigned_tied}
-use Rattle.zl_objects.proofs.Common.{unwatched, update, waits_for, waits_in, watched, with_place, ℕ, ◌++◌, ◌+◌, ◌-◌, ◌<◌, ◌==◌, ◌^◌, ◌∙◌, ◌∷◌, ◌≡◌, ◌≤◌, ◌⊎◌}
+use Rattle.zl_objects.proofs.Common.{kind_here, kind_in, kind_of_pair, length, length-append, length-update, lookup, nat_cmp, nat_lt, nat_tests, new_object}
+use Rattle.zl_objects.proofs.Common.{none-some, option_map, peer_of, put, put_key, raised_changed, received, received_body, refl, remove_entry, reserved_of}
+use Rattle.zl_objects.proofs.Common.{same_Some, sent, sent_body, set_value, slept, stopped, stopped_body, subst, sym, true, unsigned_tied, unwatched, update}
+use Rattle.zl_objects.proofs.Common.{waits_for, waits_in, watched, with_place, ℕ, ◌++◌, ◌+◌, ◌-◌, ◌<◌, ◌==◌, ◌^◌, ◌∙◌, ◌∷◌, ◌≡◌, ◌≤◌, ◌⊎◌}
 use Rattle.zl_objects.specs.declared.object.Body.TheVariants as body
 use Rattle.zl_objects.specs.declared.object.Pair.TheVariants as pair
 use Rattle.zl_objects.proofs.Peers.{peer_stays}
@@ -22,10 +22,10 @@ none_whole m next room d none empty =
 -- ---- one of the objects is written
 
 module _ (f : Object → Object) (kinds : (o : Object) → kind_in (f o).body ≡ kind_in o.body) (peers : (o : Object) → peer_of (f o).body ≡ peer_of o.body) where
-  kind_updated : (m : Map Object) (k j : ℕ) → kind_at (update m k f) j ≡ kind_at m j
+  kind_updated : (m : Map Object) (k j : ℕ) → kind_here (update m k f) j ≡ kind_here m j
   kind_updated = seen_updated (option_map (λ (o : Object). kind_in o.body)) f (λ o. ap Some (kinds o))
 
-  still : (m : Map Object) (k next : ℕ) (b : Body) → HasPeer m next b → HasPeer (update m k f) next b
+  still : (m : Map Object) (k next : ℕ) (b : Body) → HasPeerHere m next b → HasPeerHere (update m k f) next b
   still m k next b = peer_stays m (update m k f) next next b (λ p has. (has.0, λ there. kind_updated m k p ∙ has.1 (sym (has_key-update m k f p) ∙ there)))
 
   -- the places are those that the wait needs
@@ -40,16 +40,16 @@ module _ (f : Object → Object) (kinds : (o : Object) → kind_in (f o).body �
   }
     where
       by_object : (j : ℕ) (o : Object) (q : Option Object) → get m j ≡ q → (if k == j then option_map f (get m j) else get m j) ≡ Some o
-          → HasPeer (update m k f) next o.body
-      by_object j o None is read = elim (cases_Bool (k == j)) as (λ _. HasPeer (update m k f) next o.body) [
+          → HasPeerHere (update m k f) next o.body
+      by_object j o None is read = elim (cases_Bool (k == j)) as (λ _. HasPeerHere (update m k f) next o.body) [
         | inl here ↦ absurd (none-some o (rw (here, is) at read))
         | inr apart ↦ absurd (none-some o (rw (apart, is) at read))
       ]
-      by_object j o (Some q) is read = elim (cases_Bool (k == j)) as (λ _. HasPeer (update m k f) next o.body) [
-        | inl here ↦ subst (λ (x : Object). HasPeer (update m k f) next x.body) (same_Some (f q) o (rw (here, is) at read))
+      by_object j o (Some q) is read = elim (cases_Bool (k == j)) as (λ _. HasPeerHere (update m k f) next o.body) [
+        | inl here ↦ subst (λ (x : Object). HasPeerHere (update m k f) next x.body) (same_Some (f q) o (rw (here, is) at read))
             (still m k next (f q).body (rw (kinds q, peers q) (whole.peers j q is)))
         | inr apart ↦
-            subst (λ (x : Object). HasPeer (update m k f) next x.body) (same_Some q o (rw (apart, is) at read)) (still m k next q.body (whole.peers j q is))
+            subst (λ (x : Object). HasPeerHere (update m k f) next x.body) (same_Some q o (rw (apart, is) at read)) (still m k next q.body (whole.peers j q is))
       ]
 
   module _ (quiet : (o : Object) → (f o).signals ≡ o.signals) (same : (o : Object) → reserved_of (f o).body ≡ reserved_of o.body) where
@@ -181,11 +181,11 @@ received_whole = rebodied_whole received_body received_same
 
 -- ---- one object more
 
-later_peer : (m : Map Object) (next : ℕ) (o : Object) (b : Body) → ((j : ℕ) → IsTrue (has_key m j) → j < next) → HasPeer m next b
-    → HasPeer (put m next o) (next + 1) b
+later_peer : (m : Map Object) (next : ℕ) (o : Object) (b : Body) → ((j : ℕ) → IsTrue (has_key m j) → j < next) → HasPeerHere m next b
+    → HasPeerHere (put m next o) (next + 1) b
 later_peer m next o b below = peer_stays m (put m next o) next (next + 1) b later
   where
-    later : (p : ℕ) → HasPeerOf (kind_in b) m next p → HasPeerOf (kind_in b) (put m next o) (next + 1) p
+    later : (p : ℕ) → IsPeerHere (kind_in b) m next p → IsPeerHere (kind_in b) (put m next o) (next + 1) p
     later p has = (omega (arith, has.0), λ there. rw (get-put m next o p, apart) (has.1 (rw (get-put m next o p, apart) at there)))
       where
         apart : (next == p) ≡ false
@@ -203,14 +203,14 @@ inserted_whole m n next room room2 d d2 o whole alone empty fresh same more into
   none = whole.none;
 }
   where
-    no_end : (b : Body) → is_end_body b ≡ false → HasPeer (put m next o) (next + 1) b
+    no_end : (b : Body) → is_end_body b ≡ false → HasPeerHere (put m next o) (next + 1) b
     no_end (body.ChannelEnd p queue) h = absurd (false≢true (sym h))
     no_end (body.PairEnd p) h = absurd (false≢true (sym h))
     no_end _ h = tt
 
     by_key : (k : ℕ) (q : Object) → IsTrue (next == k) ⊎ ((next == k) ≡ false) → (if next == k then Some o else get m k) ≡ Some q
-        → HasPeer (put m next o) (next + 1) q.body
-    by_key k q (inl here) read = subst (λ (x : Object). HasPeer (put m next o) (next + 1) x.body) (same_Some o q (rw here at read)) (no_end o.body alone)
+        → HasPeerHere (put m next o) (next + 1) q.body
+    by_key k q (inl here) read = subst (λ (x : Object). HasPeerHere (put m next o) (next + 1) x.body) (same_Some o q (rw here at read)) (no_end o.body alone)
     by_key k q (inr apart) read = later_peer m next o q.body whole.below (whole.peers k q (rw apart at read))
 
 -- ---- both ends of a channel or of an event pair more
@@ -279,7 +279,7 @@ pair_whole pair m n n2 next room room2 handles d d2 o o2 whole first second same
     get_second : (k : ℕ) → get n2 k ≡ (if next + 1 == k then Some o2 else (if next == k then Some o else get m k))
     get_second k = rw (is_put2, get-put n (next + 1) o2 k, is_put, get-put m next o k) refl
 
-    first_there : kind_at n2 next ≡ Some (kind_of_pair pair)
+    first_there : kind_here n2 next ≡ Some (kind_of_pair pair)
     first_there = rw (get_second next, apart, here, first) (ap Some (end_kind pair (next + 1)))
       where
         apart : (next + 1 == next) ≡ false
@@ -288,23 +288,23 @@ pair_whole pair m n n2 next room room2 handles d d2 o o2 whole first second same
         here : (next == next) ≡ true
         here = eq-eqb next next refl
 
-    second_there : kind_at n2 (next + 1) ≡ Some (kind_of_pair pair)
+    second_there : kind_here n2 (next + 1) ≡ Some (kind_of_pair pair)
     second_there = rw (get_second (next + 1), here, second) (ap Some (end_kind pair next))
       where
         here : (next + 1 == next + 1) ≡ true
         here = eq-eqb (next + 1) (next + 1) refl
 
     -- an end has its peer
-    has_peer : (p : ℕ) → HasPeerOf (kind_of_pair pair) n2 (next + 1 + 1) p → HasPeer n2 (next + 1 + 1) (end_to pair p)
+    has_peer : (p : ℕ) → IsPeerHere (kind_of_pair pair) n2 (next + 1 + 1) p → HasPeerHere n2 (next + 1 + 1) (end_to pair p)
     has_peer p has = rw (end_peer pair p, end_kind pair p) has
 
     by_key : (k : ℕ) (q : Object) → IsTrue (next + 1 == k) ⊎ ((next + 1 == k) ≡ false) → IsTrue (next == k) ⊎ ((next == k) ≡ false)
-        → (if next + 1 == k then Some o2 else (if next == k then Some o else get m k)) ≡ Some q → HasPeer n2 (next + 1 + 1) q.body
+        → (if next + 1 == k then Some o2 else (if next == k then Some o else get m k)) ≡ Some q → HasPeerHere n2 (next + 1 + 1) q.body
     by_key k q (inl last) other read =
-        subst (λ (x : Object). HasPeer n2 (next + 1 + 1) x.body) (sym second ∙ same_Some o2 q (rw last at read))
+        subst (λ (x : Object). HasPeerHere n2 (next + 1 + 1) x.body) (sym second ∙ same_Some o2 q (rw last at read))
         (has_peer next (omega arith, λ there. first_there))
     by_key k q (inr apart) (inl here) read =
-        subst (λ (x : Object). HasPeer n2 (next + 1 + 1) x.body) (sym first ∙ same_Some o q (rw (apart, here) at read))
+        subst (λ (x : Object). HasPeerHere n2 (next + 1 + 1) x.body) (sym first ∙ same_Some o q (rw (apart, here) at read))
         (has_peer (next + 1) (omega arith, λ there. second_there))
     by_key k q (inr apart) (inr old) read =
         rw is_put2 (later_peer n (next + 1) o2 q.body below (rw is_put (later_peer m next o q.body whole.below (whole.peers k q (rw (apart, old) at read)))))

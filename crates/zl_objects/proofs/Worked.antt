@@ -6,7 +6,7 @@ use Rattle.zl_rights.specs.declared.kind.Kind.TheVariants as kind
 use Rattle.zl_rights.specs.Counts.{handles_to}
 use Rattle.zl_objects.specs.declared.object.Body.TheVariants as body
 use Rattle.zl_objects.specs.declared.object.Life.TheVariants as life
-use Rattle.zl_jobs.specs.Jobs.{job_within, root_job}
+use Rattle.zl_jobs.specs.Jobs.{job_within_here, root_job}
 
 -- a handle to the object k
 abbrev handle : ℕ → Entry
@@ -21,8 +21,8 @@ message k = record { bytes = []; handles = handle k ∷ [] }
 abbrev objects : Map Object
 objects =
     (1, new_object (body.Job root_job) 0) ∷ (3, new_object (body.ChannelEnd 2 (message 4 ∷ message 3 ∷ [])) 2) ∷ (4, new_object body.Event 1)
-    ∷ (5, new_object (body.Process 1 life.Running) 1) ∷ (6, new_object (body.Job (job_within 1 root_job)) 0) ∷ (7, new_object (body.Process 6 life.Created) 1)
-    ∷ []
+    ∷ (5, new_object (body.Process 1 life.Running) 1) ∷ (6, new_object (body.Job (job_within_here 1 root_job)) 0)
+    ∷ (7, new_object (body.Process 6 life.Created) 1) ∷ []
 
 abbrev process : Process
 process = record {

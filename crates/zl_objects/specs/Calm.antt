@@ -5,7 +5,7 @@ use Rattle.zl_rights.specs.Map.{Map, get, update}
 use Rattle.zl_rights.specs.Numbers.{meets}
 use Rattle.zl_rights.specs.Signals.{is_empty}
 use Rattle.zl_rights.specs.World.{Wait}
-use Rattle.zl_signals.specs.Waits.{holds}
+use Rattle.zl_signals.specs.Waits.{watch_holds}
 use Rattle.zl_objects.specs.declared.awaited.Awaited.{Awaited}
 use Rattle.zl_objects.specs.declared.awaited.Awaited.TheVariants as awaits
 use Rattle.zl_objects.specs.declared.awaited.Sleeper.{Sleeper}
@@ -17,7 +17,7 @@ use Rattle.zl_objects.specs.Awaited.{koid_of}
 use Rattle.zl_objects.specs.Dying.{IsKept}
 use Rattle.zl_objects.specs.Index.{IsIndexed}
 use Rattle.zl_objects.specs.Objects.{Objects}
-use Rattle.zl_objects.specs.Ports.{packets_in}
+use Rattle.zl_objects.specs.Ports.{packets_found}
 use Rattle.zl_objects.specs.Signals.{signals_at}
 use Rattle.zl_objects.specs.Waits.{HaveSameWaits}
 
@@ -29,7 +29,7 @@ holds_now m x = meets (signals_at m x.object) x.mask
 
 -- packets are at the object that was found
 abbrev pub has_packet : Option Object → Bool
-has_packet o = not (is_empty (packets_in o))
+has_packet o = not (is_empty (packets_found o))
 
 -- what is waited for is there, where these signals are active at its object, and packets are there or aren't
 abbrev pub is_given : ℕ → Bool → Awaited → Bool
@@ -67,7 +67,7 @@ is_watched_in (Some o) = is_watched o
 
 -- of the waits at the object none holds, where these signals are active
 abbrev pub NoneHolds : ℕ → Object → Type 0
-NoneHolds signals o = list_any (holds signals) o.signals.waits ≡ false
+NoneHolds signals o = list_any (watch_holds signals) o.signals.waits ≡ false
 
 -- the sleeper waits at an object that was given, and that knows of it; unless it is marked, what it waits for isn't there
 pub record IsAtRest (marked : ℕ → Bool) (m : Map Object) (next_koid : ℕ) (s : Sleeper) : Type 0 where

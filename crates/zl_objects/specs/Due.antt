@@ -6,7 +6,7 @@ use Rattle.zl_objects.specs.declared.wait.Listed.{Listed}
 use Rattle.zl_objects.specs.Calm.{holds_now}
 use Rattle.zl_objects.specs.Listed.{listed_value}
 use Rattle.zl_objects.specs.Signals.{signals_at}
-use Rattle.zl_objects.specs.Waits.{next_in}
+use Rattle.zl_objects.specs.Waits.{order_found}
 
 -- the entry of the list is of a wait that holds
 abbrev pub is_entry_due : Map Object → Listed → Bool
@@ -14,7 +14,7 @@ is_entry_due m x = holds_now m (listed_value x)
 
 -- the order of the earliest wait at the object k that holds
 abbrev pub order_at : Map Object → ℕ → Option ℕ
-order_at m k = next_in (signals_at m k) (get m k)
+order_at m k = order_found (signals_at m k) (get m k)
 
 -- the one with the lower order: what was found so far, or the object k, of whose earliest wait this is the order
 abbrev pub earlier : Option (ℕ × ℕ) → Option ℕ → ℕ → Option (ℕ × ℕ)

@@ -7,7 +7,7 @@ use Rattle.zl_signals.specs.declared.watch.Watch.{Watch}
 use Rattle.zl_objects.specs.declared.object.Body.{Body}
 use Rattle.zl_objects.specs.declared.object.Object.{Object}
 use Rattle.zl_objects.specs.declared.wait.Listed.{Listed}
-use Rattle.zl_objects.specs.Objects.{is_kept, kind_at, kind_in, peer_of}
+use Rattle.zl_objects.specs.Objects.{is_kept, kind_here, kind_in, peer_of}
 use Rattle.zl_objects.specs.Release.{AreKeptBut, Cascades}
 use Rattle.zl_objects.specs.Listed.{AreListed}
 use Rattle.zl_objects.specs.Waits.{HavePlaces, HavePlacesWith}
@@ -56,18 +56,18 @@ pub record LetsGo (ks : List ℕ) (m : Map Object) (dying : List ℕ) (m2 : Map 
   pub thins : (k : ℕ) (o : Object) → get m2 k ≡ Some o → Thins m m2 k o
 
 -- the koid of the peer was given, and it is of this kind while it is there
-abbrev pub HasPeerOf : Kind → Map Object → ℕ → ℕ → Type 0
-HasPeerOf kind m next_koid peer = (peer < next_koid) × (IsTrue (has_key m peer) → kind_at m peer ≡ Some kind)
+abbrev pub IsPeerHere : Kind → Map Object → ℕ → ℕ → Type 0
+IsPeerHere kind m next_koid peer = (peer < next_koid) × (IsTrue (has_key m peer) → kind_here m peer ≡ Some kind)
 
 -- the peer of an end is an end of the same kind
-abbrev pub HasPeer : Map Object → ℕ → Body → Type 0
-HasPeer m next_koid b = IfSome (peer_of b) (HasPeerOf (kind_in b) m next_koid)
+abbrev pub HasPeerHere : Map Object → ℕ → Body → Type 0
+HasPeerHere m next_koid b = IfSome (peer_of b) (IsPeerHere (kind_in b) m next_koid)
 
 -- all koids lie below the next one, peers are ends, each wait has its place at its port and there is one more for this
 -- one, there is room for each object, and none is noted
 pub record IsWhole (more : Option Watch) (m : Map Object) (next_koid : ℕ) (dying : List ℕ) (room : ℕ) : Type 0 where
   pub below : (k : ℕ) → IsTrue (has_key m k) → k < next_koid
-  pub peers : (k : ℕ) (o : Object) → get m k ≡ Some o → HasPeer m next_koid o.body
+  pub peers : (k : ℕ) (o : Object) → get m k ≡ Some o → HasPeerHere m next_koid o.body
   pub places : HavePlacesWith more m
   pub enough : length m ≤ room
   pub none : dying ≡ []

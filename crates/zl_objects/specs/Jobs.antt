@@ -34,9 +34,9 @@ abbrev pub job_at : Map Object → ℕ → Option Job
 job_at m k = as_job_in (get m k)
 
 -- a job that was killed, or none
-abbrev pub is_dead : Option Job → Bool
-is_dead None = true
-is_dead (Some job) = job.killed
+abbrev pub is_dead_here : Option Job → Bool
+is_dead_here None = true
+is_dead_here (Some job) = job.killed
 
 -- how deep the job stands, 0 where there is none
 abbrev pub depth_of : Option Job → ℕ
@@ -44,9 +44,9 @@ depth_of None = 0
 depth_of (Some job) = job.depth
 
 -- what the policy of the job decides for the condition; where there is none, everything is allowed
-abbrev pub action_of : Option Job → Condition → Action
-action_of None c = action.Allow
-action_of (Some job) c = action_in job.policy c
+abbrev pub action_here : Option Job → Condition → Action
+action_here None c = action.Allow
+action_here (Some job) c = action_in job.policy c
 
 -- anything is set in the policy of the job
 abbrev pub has_actions : Option Job → Bool
@@ -76,9 +76,9 @@ lives_in (Some o) = lives_body o.body
 -- ---- children
 
 -- a living job directly below the job k
-abbrev pub is_job_below : ℕ → Body → Bool
-is_job_below k (body.Job job) = (job.parent == k) && not job.killed
-is_job_below k _ = false
+abbrev pub is_job_below_here : ℕ → Body → Bool
+is_job_below_here k (body.Job job) = (job.parent == k) && not job.killed
+is_job_below_here k _ = false
 
 -- a living process of the job k
 abbrev pub is_process_below : ℕ → Body → Bool
@@ -87,7 +87,7 @@ is_process_below k _ = false
 
 -- a living job stands directly below the job k
 unfoldable pub has_job_below : Map Object → ℕ → Bool
-has_job_below m k = list_any (λ e. is_job_below k e.1.body) m
+has_job_below m k = list_any (λ e. is_job_below_here k e.1.body) m
 
 -- a living process stands directly below the job k
 unfoldable pub has_process_below : Map Object → ℕ → Bool
@@ -100,19 +100,19 @@ children m k = (has_job_below m k, has_process_below m k)
 -- ---- levels
 
 -- the job directly above a job or a process; 0, which is no koid, above all else
-abbrev pub parent_of : Body → ℕ
-parent_of (body.Job job) = job.parent
-parent_of (body.Process job l) = job
-parent_of _ = 0
+abbrev pub parent_held : Body → ℕ
+parent_held (body.Job job) = job.parent
+parent_held (body.Process job l) = job
+parent_held _ = 0
 
 -- the job directly above what was found
-abbrev pub parent_in : Option Object → ℕ
-parent_in None = 0
-parent_in (Some o) = parent_of o.body
+abbrev pub parent_found : Option Object → ℕ
+parent_found None = 0
+parent_found (Some o) = parent_held o.body
 
 -- the job directly above k; 0 where there is none
 abbrev pub parent_at : Map Object → ℕ → ℕ
-parent_at m k = parent_in (get m k)
+parent_at m k = parent_found (get m k)
 
 -- going up from k, at most so many times, one comes to the job
 unfoldable pub is_below_by : Map Object → ℕ → ℕ → ℕ → Bool
@@ -124,8 +124,8 @@ abbrev pub is_below : Map Object → ℕ → ℕ → Bool
 is_below m job k = not (job == 0) && is_below_by m job MOST_LEVELS k
 
 -- k is the job or stands below it; nothing is so for 0
-abbrev pub is_within : Map Object → ℕ → ℕ → Bool
-is_within m job k = not (job == 0) && ((k == job) || is_below m job k)
+abbrev pub is_within_here : Map Object → ℕ → ℕ → Bool
+is_within_here m job k = not (job == 0) && ((k == job) || is_below m job k)
 
 -- all that stands below the job, in the order of koids
 unfoldable pub descendants : Map Object → ℕ → List ℕ
@@ -161,7 +161,7 @@ killed_if kills o = if kills then killed o else o
 
 -- the objects, where k and all that stands below it was killed: jobs are killed, and processes have ended
 unfoldable pub all_killed : Map Object → ℕ → Map Object
-all_killed m k = each (λ j. killed_if (is_within m k j)) m
+all_killed m k = each (λ j. killed_if (is_within_here m k j)) m
 
 -- the same of all
 abbrev pub killing : Objects → ℕ → Objects

@@ -75,8 +75,8 @@ is_entry_there m x = is_there m (listed_value x)
 -- ---- changes
 
 -- one more wait may be registered, as not so many ever were
-abbrev pub may_register : Objects → Bool
-may_register r = nat_lt r.waits_made (2 ^ 62)
+abbrev pub may_register_here : Objects → Bool
+may_register_here r = nat_lt r.waits_made (2 ^ 62)
 
 -- the objects, where the wait was registered last of all, with a place for its packet at its port
 abbrev pub watching : Objects → Wait → Objects

@@ -30,12 +30,12 @@ pub record Objects : Type 0 where
 -- ---- koids
 
 -- so many koids are left
-abbrev pub has_koids : ℕ → ℕ → Bool
-has_koids next_koid count = nat_le (next_koid + count) (2 ^ 62)
+abbrev pub has_koids_here : ℕ → ℕ → Bool
+has_koids_here next_koid count = nat_le (next_koid + count) (2 ^ 62)
 
 -- the least koid that was not given yet, if one is left
-abbrev pub next_of : ℕ → Option ℕ
-next_of next_koid = if has_koids next_koid 1 then Some next_koid else None
+abbrev pub koid_left : ℕ → Option ℕ
+koid_left next_koid = if has_koids_here next_koid 1 then Some next_koid else None
 
 -- ---- counts of handles
 
@@ -55,14 +55,14 @@ held_once_less o = record o { handles = o.handles - 1 }
 -- ---- jobs and processes
 
 -- a job
-abbrev pub is_job_body : Body → Bool
-is_job_body (body.Job job) = true
-is_job_body _ = false
+abbrev pub is_job_here : Body → Bool
+is_job_here (body.Job job) = true
+is_job_here _ = false
 
 -- the object that was found is a job
 abbrev pub is_job_in : Option Object → Bool
 is_job_in None = false
-is_job_in (Some o) = is_job_body o.body
+is_job_in (Some o) = is_job_here o.body
 
 -- the object k is a job
 abbrev pub is_job_at : Map Object → ℕ → Bool
@@ -143,14 +143,14 @@ abbrev pub is_channel_at : Map Object → ℕ → Bool
 is_channel_at objects k = is_channel_in (get objects k)
 
 -- what is to be read at an end, the earliest first; nothing at other objects
-abbrev pub queue_of : Body → List Message
-queue_of (body.ChannelEnd peer queue) = queue
-queue_of _ = []
+abbrev pub queue_held : Body → List Message
+queue_held (body.ChannelEnd peer queue) = queue
+queue_held _ = []
 
 -- what is to be read at the object that was found
-abbrev pub queue_in : Option Object → List Message
-queue_in None = []
-queue_in (Some o) = queue_of o.body
+abbrev pub queue_found : Option Object → List Message
+queue_found None = []
+queue_found (Some o) = queue_held o.body
 
 -- the other end, if there is one
 abbrev pub peer_of : Body → Option ℕ
@@ -159,9 +159,9 @@ peer_of (body.PairEnd peer) = Some peer
 peer_of _ = None
 
 -- the other end of what was found
-abbrev pub peer_in : Option Object → Option ℕ
-peer_in None = None
-peer_in (Some o) = peer_of o.body
+abbrev pub peer_found : Option Object → Option ℕ
+peer_found None = None
+peer_found (Some o) = peer_of o.body
 
 -- the koid, where an object has it
 abbrev pub if_there : Map Object → Option ℕ → Option ℕ
@@ -169,8 +169,8 @@ if_there objects None = None
 if_there objects (Some k) = if has_key objects k then Some k else None
 
 -- the peer of the end k, while it is there
-abbrev pub peer_at : Map Object → ℕ → Option ℕ
-peer_at objects k = if_there objects (peer_in (get objects k))
+abbrev pub peer_here : Map Object → ℕ → Option ℕ
+peer_here objects k = if_there objects (peer_found (get objects k))
 
 -- the end at which is to be read what is written at this end of a channel
 abbrev pub reader_of : Body → Option ℕ
@@ -216,8 +216,8 @@ kind_in (body.Port port) = kind.Port
 kind_in (body.PairEnd peer) = kind.Eventpair
 
 -- the kind of the object k, if it is there
-abbrev pub kind_at : Map Object → ℕ → Option Kind
-kind_at objects k = option_map (λ o. kind_in o.body) (get objects k)
+abbrev pub kind_here : Map Object → ℕ → Option Kind
+kind_here objects k = option_map (λ o. kind_in o.body) (get objects k)
 
 -- ---- what keeps an object
 
@@ -237,12 +237,12 @@ abbrev pub is_child : ℕ → Body → Bool
 is_child k b = is_koid k (keeper_of b)
 
 -- the job k has a living child
-unfoldable pub has_living_child : Map Object → ℕ → Bool
-has_living_child objects k = list_any (λ e. is_child k e.1.body) objects
+unfoldable pub has_living_child_here : Map Object → ℕ → Bool
+has_living_child_here objects k = list_any (λ e. is_child k e.1.body) objects
 
 -- an object that stays without a handle
 abbrev pub stays_alone : Map Object → ℕ → Body → Bool
-stays_alone objects k (body.Job job) = has_living_child objects k
+stays_alone objects k (body.Job job) = has_living_child_here objects k
 stays_alone objects k (body.Process job l) = is_running l
 stays_alone objects k _ = false
 

@@ -28,9 +28,9 @@ packets_of (body.Port port) = port.packets
 packets_of _ = []
 
 -- the packets at the object that was found
-abbrev pub packets_in : Option Object → List Packet
-packets_in None = []
-packets_in (Some o) = packets_of o.body
+abbrev pub packets_found : Option Object → List Packet
+packets_found None = []
+packets_found (Some o) = packets_of o.body
 
 -- the places that are reserved for packets to come
 abbrev pub reserved_of : Body → ℕ

@@ -7,16 +7,16 @@ use Rattle.zl_rights.specs.declared.entry.Entry.{Entry}
 use Rattle.zl_rights.specs.Map.{Map, get, update, without}
 use Rattle.zl_rights.specs.World.{Message}
 use Rattle.zl_objects.specs.declared.object.Object.{Object}
-use Rattle.zl_objects.specs.Objects.{Objects, held_once_less, is_kept, job_in, queue_of, stopping}
+use Rattle.zl_objects.specs.Objects.{Objects, held_once_less, is_kept, job_in, queue_held, stopping}
 use Rattle.zl_objects.specs.Waits.{AreSameButWaits}
 
 -- what the handles name
-abbrev pub koids_of : List Entry → List ℕ
-koids_of es = map (λ (e : Entry). e.koid) es
+abbrev pub koids_in : List Entry → List ℕ
+koids_in es = map (λ (e : Entry). e.koid) es
 
 -- what the handles in the messages name
 abbrev pub named_in : List Message → List ℕ
-named_in ms = flat_map (λ (m : Message). koids_of m.handles) ms
+named_in ms = flat_map (λ (m : Message). koids_in m.handles) ms
 
 -- the koids of all objects
 abbrev pub all_koids : Map Object → List ℕ
@@ -28,7 +28,7 @@ pub data Cascades : List ℕ → Map Object → Map Object → Type 0 where
   let_go : (k : ℕ) (ks : List ℕ) (m m2 : Map Object)
       → Cascades ks (update m k held_once_less) m2 → Cascades (k ∷ ks) m m2
   goes : (k : ℕ) (o : Object) (ks : List ℕ) (m m2 : Map Object) → get m k ≡ Some o → is_kept m k o ≡ false
-      → Cascades (named_in (queue_of o.body) ++ ks) (without m k) m2 → Cascades ks m m2
+      → Cascades (named_in (queue_held o.body) ++ ks) (without m k) m2 → Cascades ks m m2
   waits_end : (ks : List ℕ) (m mid m2 : Map Object) → AreSameButWaits m mid → Cascades ks mid m2 → Cascades ks m m2
 
 -- the objects are in the order of their koids, and something keeps each but perhaps these
@@ -44,10 +44,10 @@ pub record Releases (ks loose : List ℕ) (r r2 : Objects) : Type 0 where
   pub koids : r2.next_koid ≡ r.next_koid
 
 -- the process k of the job that was found has ended, and with it went what nothing keeps any more
-abbrev pub Ended : ℕ → Option ℕ → Objects → Objects → Type 0
-Ended k None r r2 = r2 ≡ r
-Ended k (Some job) r r2 = Releases [] (job ∷ k ∷ []) (stopping r k) r2
+abbrev pub EndedHere : ℕ → Option ℕ → Objects → Objects → Type 0
+EndedHere k None r r2 = r2 ≡ r
+EndedHere k (Some job) r r2 = Releases [] (job ∷ k ∷ []) (stopping r k) r2
 
 -- the process k has ended, if there is one
 abbrev pub Ends : ℕ → Objects → Objects → Type 0
-Ends k r r2 = Ended k (job_in (get r.objects k)) r r2
+Ends k r r2 = EndedHere k (job_in (get r.objects k)) r r2

@@ -15,21 +15,21 @@ use Rattle.zl_objects.specs.Jobs.{has_job_below, has_process_below}
 use Rattle.zl_objects.specs.Seen.{with_objects}
 
 -- the signals of the object k that follow from the objects
-abbrev pub implied : Map Object → ℕ → Body → ℕ
-implied m k (body.Job job) =
+abbrev pub implied_here : Map Object → ℕ → Body → ℕ
+implied_here m k (body.Job job) =
     bit_or (signal_if TERMINATED job.killed)
     (bit_or (signal_if NO_JOBS (not (has_job_below m k))) (signal_if NO_PROCESSES (not (has_process_below m k))))
-implied m k (body.Process job l) = signal_if TERMINATED (not (is_alive l))
-implied m k body.Event = 0
-implied m k (body.Port port) = 0
-implied m k (body.PairEnd peer) = signal_if PEER_CLOSED (not (has_key m peer))
-implied m k (body.ChannelEnd peer queue) =
+implied_here m k (body.Process job l) = signal_if TERMINATED (not (is_alive l))
+implied_here m k body.Event = 0
+implied_here m k (body.Port port) = 0
+implied_here m k (body.PairEnd peer) = signal_if PEER_CLOSED (not (has_key m peer))
+implied_here m k (body.ChannelEnd peer queue) =
     bit_or (signal_if READABLE (not (is_empty queue))) (if has_key m peer then WRITABLE else PEER_CLOSED)
 
 -- the signals that calls raised at the object that was found, and those that follow
 abbrev pub signals_in : Map Object → ℕ → Option Object → ℕ
 signals_in m k None = 0
-signals_in m k (Some o) = bit_or o.signals.raised (implied m k o.body)
+signals_in m k (Some o) = bit_or o.signals.raised (implied_here m k o.body)
 
 -- the signals of the object k, none where it isn't there
 abbrev pub signals_at : Map Object → ℕ → ℕ

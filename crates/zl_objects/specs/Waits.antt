@@ -5,7 +5,7 @@ use Rattle.zl_rights.specs.Map.{Map, each, get, has_key, update}
 use Rattle.zl_rights.specs.Signals.{is_empty}
 use Rattle.zl_rights.specs.World.{Packet}
 use Rattle.zl_signals.specs.declared.watch.Watch.{Watch}
-use Rattle.zl_signals.specs.Waits.{holds, is_at_port, next_order, with_wait, without_port, without_wait}
+use Rattle.zl_signals.specs.Waits.{is_at_port, next_order, watch_holds, with_wait, without_port, without_wait}
 use Rattle.zl_port.specs.Packets.{Port, with_packet, without_place}
 use Rattle.zl_objects.specs.declared.object.Object.{Object}
 use Rattle.zl_objects.specs.Objects.{Objects}
@@ -17,13 +17,13 @@ waits_in None = []
 waits_in (Some o) = o.signals.waits
 
 -- the order of the earliest wait that holds at the object that was found
-abbrev pub next_in : ℕ → Option Object → Option ℕ
-next_in active None = None
-next_in active (Some o) = next_order o.signals active
+abbrev pub order_found : ℕ → Option Object → Option ℕ
+order_found active None = None
+order_found active (Some o) = next_order o.signals active
 
 -- the packet of a wait that was registered at the object k, where these signals are active
-abbrev pub packet_of : ℕ → ℕ → Watch → Packet
-packet_of k active x = record {
+abbrev pub packet_here : ℕ → ℕ → Watch → Packet
+packet_here k active x = record {
   kind = 1;
   key = x.key;
   trigger = x.mask.0;
@@ -78,8 +78,8 @@ unwatching r k test = record r {
 -- the objects, where the earliest wait at the object k that holds has gone, and its packet stands in its place
 abbrev pub firing : Objects → ℕ → ℕ → Objects
 firing r k active = record r {
-  objects = at_port_of (find (holds active) (waits_in (get r.objects k)))
-      (λ x port. with_packet (without_place port) (packet_of k active x)) (update r.objects k (unwatched (holds active)));
+  objects = at_port_of (find (watch_holds active) (waits_in (get r.objects k)))
+      (λ x port. with_packet (without_place port) (packet_here k active x)) (update r.objects k (unwatched (watch_holds active)));
 }
 
 -- the object without the waits that give their packets to the port

@@ -1,7 +1,7 @@
 //! A task and what stands below it, listed without a look at all objects and without memory.
 
 ghost use Rattle.std.specs.Prelude.{ℕ, ◌≡◌, true, IsTrue};
-ghost use Rattle.zl_objects.specs.Below.{is_among, HasBelow, HasTask};
+ghost use Rattle.zl_objects.specs.Below.{is_one_of, HasBelow, HasTask};
 ghost use Rattle.zl_objects.specs.Index.{IsIndexed};
 
 use crate::children::Children;
@@ -21,9 +21,9 @@ pub struct TaskList {
 
 /// Lists the koid, if there is room for one more. Says whether there was.
 fn note(found: &mut Vec<Koid>, koid: Koid) -> bool
-    ensures noted { result ≡ true → IsTrue (is_among koid found.new.items) }
-    ensures more { (k : ℕ) → IsTrue (is_among k found.old.items)
-        → IsTrue (is_among k found.new.items) }
+    ensures noted { result ≡ true → IsTrue (is_one_of koid found.new.items) }
+    ensures more { (k : ℕ) → IsTrue (is_one_of k found.old.items)
+        → IsTrue (is_one_of k found.new.items) }
 {
     if found.len() == found.capacity() {
         return false;
@@ -35,8 +35,8 @@ fn note(found: &mut Vec<Koid>, koid: Koid) -> bool
 /// Lists what stands below the job, so many levels at most. Says whether there was room.
 fn list_below(children: &Children, found: &mut Vec<Koid>, job: Koid, levels: u32) -> bool
     ensures below { result ≡ true → HasBelow children.now job levels found.new.items }
-    ensures more { (k : ℕ) → IsTrue (is_among k found.old.items)
-        → IsTrue (is_among k found.new.items) }
+    ensures more { (k : ℕ) → IsTrue (is_one_of k found.old.items)
+        → IsTrue (is_one_of k found.new.items) }
 {
     if levels == 0 {
         return true;

@@ -4,8 +4,8 @@ ghost use Rattle.std.specs.Prelude.{ℕ, ◌≡◌, false, IfSome, IsTrue, OnOk}
 ghost use Rattle.zl_rights.specs.Map.{get};
 ghost use Rattle.zl_objects.specs.Below.{IsNextListed};
 ghost use Rattle.zl_objects.specs.Index.{lists, passes_in, IsIndexed, OthersStayListed, StayListed};
-ghost use Rattle.zl_objects.specs.Jobs.{has_job_below, has_process_below, is_job_below, is_process_below};
-ghost use Rattle.zl_objects.specs.Objects.{has_living_child, is_child};
+ghost use Rattle.zl_objects.specs.Jobs.{has_job_below, has_process_below, is_job_below_here, is_process_below};
+ghost use Rattle.zl_objects.specs.Objects.{has_living_child_here, is_child};
 
 use crate::object::Object;
 use std::alloc::{AllocError, Global};
@@ -75,7 +75,7 @@ impl Children {
 /// Whether the job has a living child.
 pub fn has_living_child(by_koid: &BTreeMap<Koid, Object>, children: &Children, job: Koid) -> bool
     requires { IsIndexed children.now by_koid.now.entries }
-    ensures { result ≡ has_living_child by_koid.now.entries job }
+    ensures { result ≡ has_living_child_here by_koid.now.entries job }
 {
     children
         .pairs
@@ -119,7 +119,7 @@ fn is_child_at(by_koid: &BTreeMap<Koid, Object>, koid: Koid, job: Koid) -> bool
 /// Whether the object is there, and a living job directly below the job.
 #[tactic(auto, using(crate::proofs::ByKoid::by_koid))]
 fn is_job_at(by_koid: &BTreeMap<Koid, Object>, koid: Koid, job: Koid) -> bool
-    ensures { result ≡ passes_in (is_job_below job) (get by_koid.now.entries koid) }
+    ensures { result ≡ passes_in (is_job_below_here job) (get by_koid.now.entries koid) }
 {
     match by_koid.get(&koid) {
         Some(object) => object.body.is_job_below(job),

@@ -4,7 +4,7 @@ ghost use Rattle.std.specs.Prelude.{◌≡◌, OnErr, OnOk, slice_get};
 ghost use Rattle.zl_rights.specs.Map.{get};
 ghost use Rattle.zl_objects.specs.Objects.{is_child, job_in, keeper_of};
 ghost use Rattle.zl_objects.specs.Index.{above_of};
-ghost use Rattle.zl_objects.specs.Jobs.{action_of, as_job, children, depth_of, descendants, has_actions, is_dead, is_job_below, is_process_below, is_within, job_at, lives_body, lives_in, new_in, parent_of, policy_answer, setting_policy, with_policy_set};
+ghost use Rattle.zl_objects.specs.Jobs.{action_here, as_job, children, depth_of, descendants, has_actions, is_dead_here, is_job_below_here, is_process_below, is_within_here, job_at, lives_body, lives_in, new_in, parent_held, policy_answer, setting_policy, with_policy_set};
 
 use crate::children::{has_job_below, has_process_below};
 use crate::killing::{is_below, is_within};
@@ -73,7 +73,7 @@ impl Body {
 
     /// The job directly above a job or a process; 0 above all else.
     pub(crate) fn parent(&self) -> Koid
-        ensures { result ≡ parent_of self.now }
+        ensures { result ≡ parent_held self.now }
     {
         match self {
             Body::Job(job) => job.parent(),
@@ -84,7 +84,7 @@ impl Body {
 
     /// Whether it is a living job directly below the job.
     pub(crate) fn is_job_below(&self, parent: Koid) -> bool
-        ensures { result ≡ is_job_below parent self.now }
+        ensures { result ≡ is_job_below_here parent self.now }
     {
         match self {
             Body::Job(job) => job.parent() == parent && !job.is_killed(),
@@ -114,7 +114,7 @@ impl Body {
 
     /// Whether it is no job that lives.
     fn is_dead(&self) -> bool
-        ensures { result ≡ is_dead (as_job self.now) }
+        ensures { result ≡ is_dead_here (as_job self.now) }
     {
         match self {
             Body::Job(job) => job.is_killed(),
@@ -134,7 +134,7 @@ impl Body {
 
     /// What the policy of a job decides; all else allows.
     fn action(&self, condition: Condition) -> Action
-        ensures { result ≡ action_of (as_job self.now) condition }
+        ensures { result ≡ action_here (as_job self.now) condition }
     {
         match self {
             Body::Job(job) => job.action(condition),
@@ -190,7 +190,7 @@ impl Objects {
     ///
     /// Source: own profile.
     pub fn is_dead(&self, job: Koid) -> bool
-        ensures { result ≡ is_dead (job_at self.now.objects job) }
+        ensures { result ≡ is_dead_here (job_at self.now.objects job) }
     {
         match self.by_koid.get(&job) {
             Some(object) => object.body.is_dead(),
@@ -215,7 +215,7 @@ impl Objects {
     ///
     /// Source: the page "zx_job_set_policy" of the Fuchsia documentation.
     pub fn action(&self, job: Koid, condition: Condition) -> Action
-        ensures { result ≡ action_of (job_at self.now.objects job) condition }
+        ensures { result ≡ action_here (job_at self.now.objects job) condition }
     {
         match self.by_koid.get(&job) {
             Some(object) => object.body.action(condition),
@@ -289,7 +289,7 @@ impl Objects {
     ///
     /// Source: own profile.
     pub fn is_within(&self, job: Koid, koid: Koid) -> bool
-        ensures { result ≡ is_within self.now.objects job koid }
+        ensures { result ≡ is_within_here self.now.objects job koid }
     {
         is_within(&self.by_koid, job, koid)
     }

@@ -9,7 +9,7 @@ ghost use Rattle.zl_rights.specs.Map.{get, has_key, update};
 ghost use Rattle.zl_jobs.specs.Jobs.{MOST_LEVELS};
 ghost use Rattle.zl_objects.specs.Below.{killed_among, HasTask};
 ghost use Rattle.zl_objects.specs.Calm.{is_marked, KeepsCalm};
-ghost use Rattle.zl_objects.specs.Jobs.{all_killed, is_below, is_below_by, is_within, killed, killed_if, parent_at};
+ghost use Rattle.zl_objects.specs.Jobs.{all_killed, is_below, is_below_by, is_within_here, killed, killed_if, parent_at};
 ghost use Rattle.zl_objects.specs.Walks.{IsNext};
 
 use crate::marks::Marks;
@@ -77,7 +77,7 @@ pub fn is_below(by_koid: &BTreeMap<Koid, Object>, job: Koid, koid: Koid) -> bool
 
 /// Whether it is the job or stands below it; nothing is so for 0.
 pub fn is_within(by_koid: &BTreeMap<Koid, Object>, job: Koid, koid: Koid) -> bool
-    ensures { result ≡ is_within by_koid.now.entries job koid }
+    ensures { result ≡ is_within_here by_koid.now.entries job koid }
 {
     job != 0 && (koid == job || is_below(by_koid, job, koid))
 }

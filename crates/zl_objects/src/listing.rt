@@ -9,7 +9,7 @@ ghost use Rattle.zl_signals.specs.Waits.{without_first};
 ghost use Rattle.zl_objects.specs.Calm.{holds_now};
 ghost use Rattle.zl_objects.specs.Due.{is_entry_due};
 ghost use Rattle.zl_objects.specs.Index.{IsIndexed};
-ghost use Rattle.zl_objects.specs.Listed.{entry_of, is_there, may_register, order_entry, wait_value};
+ghost use Rattle.zl_objects.specs.Listed.{entry_of, is_there, may_register_here, order_entry, wait_value};
 ghost use Rattle.zl_objects.specs.PortWaits.{is_entry_to, AreFound};
 
 use crate::children::Children;
@@ -120,7 +120,7 @@ impl Objects {
     ///
     /// Source: own profile.
     pub fn may_register(&self) -> bool
-        ensures { result ≡ may_register self.now }
+        ensures { result ≡ may_register_here self.now }
     {
         self.waits.made < Objects::MOST
     }

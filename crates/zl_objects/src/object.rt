@@ -3,8 +3,8 @@
 ghost use Rattle.std.specs.Prelude.{◌≡◌, ◌↔◌, IsTrue, IfErr, OnErr, OnOk, Err, Some, slice_get};
 ghost use Rattle.zl_objects.specs.Calm.{is_watched};
 ghost use Rattle.zl_objects.specs.Dying.{is_last};
-ghost use Rattle.zl_objects.specs.Objects.{has_place, held_once_more, held_once_less, is_alive, is_channel_body, is_running, end_to, job_of, kind_in, kind_of_pair, peer_of, queue_of, reader_of, raised_changed, received, sent, started, started_life, stopped};
-ghost use Rattle.zl_channel.specs.Queue.{front_handles, front_sizes, is_too_large, refused_message};
+ghost use Rattle.zl_objects.specs.Objects.{has_place, held_once_more, held_once_less, is_alive, is_channel_body, is_running, end_to, job_of, kind_in, kind_of_pair, peer_of, queue_held, reader_of, raised_changed, received, sent, started, started_life, stopped};
+ghost use Rattle.zl_channel.specs.Queue.{front_handles, front_sizes, is_too_large_here, refused_message};
 
 use crate::objects::Objects;
 use std::alloc::Global;
@@ -179,7 +179,7 @@ impl Object {
         ensures unchanged { OnErr result (self.new ≡ self.old) }
         ensures handed_back { IfErr result (λ fault. refused_message fault ≡ message) }
         ensures out_of_range { (result ≡ Err (PushFault.OutOfRange message))
-            ↔ IsTrue (is_too_large message) }
+            ↔ IsTrue (is_too_large_here message) }
     {
         match &mut self.body {
             Body::ChannelEnd { queue, .. } => queue.push(message),
@@ -190,7 +190,7 @@ impl Object {
     /// Takes the first message out of the queue of a channel end.
     pub(crate) fn receive(&mut self) -> Option<Message>
         ensures object { self.new ≡ received self.old }
-        ensures first { result ≡ slice_get (queue_of self.old.body) 0 }
+        ensures first { result ≡ slice_get (queue_held self.old.body) 0 }
     {
         match &mut self.body {
             Body::ChannelEnd { queue, .. } => queue.take(),
@@ -246,7 +246,7 @@ impl Body {
 
     /// How many bytes and how many handles the first message has that is to be read.
     pub(crate) fn front_sizes(&self) -> Option<(usize, usize)>
-        ensures { result ≡ front_sizes (queue_of self.now) }
+        ensures { result ≡ front_sizes (queue_held self.now) }
     {
         match self {
             Body::ChannelEnd { queue, .. } => queue.front_sizes(),
@@ -256,7 +256,7 @@ impl Body {
 
     /// The handles in the first message that is to be read, in order.
     pub(crate) fn front_handles(&self) -> &[Entry]
-        ensures { result.now ≡ front_handles (queue_of self.now) }
+        ensures { result.now ≡ front_handles (queue_held self.now) }
     {
         match self {
             Body::ChannelEnd { queue, .. } => queue.front_handles(),

@@ -1,7 +1,7 @@
 ghost use Rattle.std.specs.Prelude.{[], Err, Some, false, ◌≡◌, ◌↔◌, ◌+◌, ◌<◌, ◌≤◌, ◌^◌, ◌∷◌, length, vec_capacity, IsTrue, IfErr, IfOk, IfSome, OnErr, OnOk, slice_get};
 ghost use Rattle.zl_rights.specs.Map.{get, has_key};
-ghost use Rattle.zl_objects.specs.Objects.{changing, end_to, has_koids, has_place, holding, is_channel_at, is_end_at, is_end_body, is_job_at, kind_at, new_object, next_of, peer_at, queue_in, reader_at, receiving, root_alone, sending, with_pair, with_new, without_newest};
-ghost use Rattle.zl_channel.specs.Queue.{front_handles, front_sizes, is_too_large, refused_message};
+ghost use Rattle.zl_objects.specs.Objects.{changing, end_to, has_koids_here, has_place, holding, is_channel_at, is_end_at, is_end_body, is_job_at, kind_here, new_object, koid_left, peer_here, queue_found, reader_at, receiving, root_alone, sending, with_pair, with_new, without_newest};
+ghost use Rattle.zl_channel.specs.Queue.{front_handles, front_sizes, is_too_large_here, refused_message};
 ghost use Rattle.zl_objects.specs.Ports.{reserved_in, reserved_of};
 ghost use Rattle.zl_objects.specs.Release.{Releases};
 ghost use Rattle.zl_objects.specs.Seen.{LeavesLargest};
@@ -95,14 +95,14 @@ impl Objects {
 
     /// So many koids are left.
     pub fn has_koids(&self, count: u32) -> bool
-        ensures { result ≡ has_koids self.now.next_koid count }
+        ensures { result ≡ has_koids_here self.now.next_koid count }
     {
         self.next_koid <= Objects::MOST - u64::from(count)
     }
 
     /// The least koid that was not given yet, if one is left.
     pub fn next_koid(&self) -> Option<Koid>
-        ensures { result ≡ next_of self.now.next_koid }
+        ensures { result ≡ koid_left self.now.next_koid }
     {
         if self.has_koids(1) {
             Some(self.next_koid)
@@ -122,7 +122,7 @@ impl Objects {
     /// of a channel or of an event pair is made by `create_pair`, and at a port no place may be
     /// reserved.
     pub fn create(&mut self, body: Body, handles: u64) -> Result<Koid, AllocError>
-        requires koid { IsTrue (has_koids self.old.next_koid 1) }
+        requires koid { IsTrue (has_koids_here self.old.next_koid 1) }
         requires alone { is_end_body body ≡ false }
         requires unreserved { reserved_of body ≡ 0 }
         ensures koid { IfOk result (λ koid. koid ≡ self.old.next_koid) }
@@ -158,7 +158,7 @@ impl Objects {
     ///
     /// Source: the pages "zx_channel_create" and "zx_eventpair_create" of the Fuchsia documentation.
     pub fn create_pair(&mut self, pair: Pair, handles: u64) -> Result<(Koid, Koid), AllocError>
-        requires { IsTrue (has_koids self.old.next_koid 2) }
+        requires { IsTrue (has_koids_here self.old.next_koid 2) }
         ensures koids { IfOk result
             (λ koids. koids ≡ (self.old.next_koid, self.old.next_koid + 1)) }
         ensures created { OnOk result (self.new ≡ with_pair self.old pair handles) }
@@ -229,7 +229,7 @@ impl Objects {
 
     /// The kind of the object, if there is one of this koid.
     pub fn kind_of(&self, koid: Koid) -> Option<Kind>
-        ensures { result ≡ kind_at self.now.objects koid }
+        ensures { result ≡ kind_here self.now.objects koid }
     {
         match self.by_koid.get(&koid) {
             Some(object) => Some(object.body.kind()),
@@ -273,9 +273,9 @@ impl Objects {
     ///
     /// Source: the pages "Channel" and "Event pair" of the Fuchsia documentation.
     pub fn peer(&self, koid: Koid) -> Option<Koid>
-        ensures peer { result ≡ peer_at self.now.objects koid }
+        ensures peer { result ≡ peer_here self.now.objects koid }
         ensures kind { IfSome result
-            (λ peer. kind_at self.now.objects peer ≡ kind_at self.now.objects koid) }
+            (λ peer. kind_here self.now.objects peer ≡ kind_here self.now.objects koid) }
     {
         let peer = self.by_koid.get(&koid)?.body.peer()?;
         if self.by_koid.contains_key(&peer) {
@@ -311,7 +311,7 @@ impl Objects {
         ensures unchanged { OnErr result (self.new ≡ self.old) }
         ensures handed_back { IfErr result (λ fault. refused_message fault ≡ message) }
         ensures out_of_range { (result ≡ Err (PushFault.OutOfRange message))
-            ↔ IsTrue (is_too_large message) }
+            ↔ IsTrue (is_too_large_here message) }
     {
         let Some(end) = self.by_koid.get_mut(&koid) else {
             return Ok(());
@@ -324,7 +324,7 @@ impl Objects {
     /// Takes the first message that is to be read at the end, with its handles. No count of handles
     /// changes. Nothing where no message is there, or it is no end. It takes no memory.
     pub fn receive(&mut self, koid: Koid) -> Option<Message>
-        ensures first { result ≡ slice_get (queue_in (get self.old.objects koid)) 0 }
+        ensures first { result ≡ slice_get (queue_found (get self.old.objects koid)) 0 }
         ensures left { self.new ≡ receiving self.old koid }
     {
         self.by_koid.get_mut(&koid)?.receive()
@@ -332,7 +332,7 @@ impl Objects {
 
     /// How many bytes and how many handles the first message has that is to be read at the end.
     pub fn front_sizes(&self, koid: Koid) -> Option<(usize, usize)>
-        ensures { result ≡ front_sizes (queue_in (get self.now.objects koid)) }
+        ensures { result ≡ front_sizes (queue_found (get self.now.objects koid)) }
     {
         self.by_koid.get(&koid)?.body.front_sizes()
     }
@@ -340,7 +340,7 @@ impl Objects {
     /// The handles in the first message that is to be read at the end, in order. None where no
     /// message is there, or it is no end.
     pub fn front_handles(&self, koid: Koid) -> &[Entry]
-        ensures { result.now ≡ front_handles (queue_in (get self.now.objects koid)) }
+        ensures { result.now ≡ front_handles (queue_found (get self.now.objects koid)) }
     {
         match self.by_koid.get(&koid) {
             Some(object) => object.body.front_handles(),

@@ -4,7 +4,7 @@ ghost use Rattle.std.specs.Prelude.{◌≡◌, ◌↔◌, ◌≤◌, Err, IsTrue
 ghost use Rattle.zl_rights.specs.Signals.{is_empty};
 ghost use Rattle.zl_rights.specs.Map.{get};
 ghost use Rattle.zl_port.specs.Packets.{MOST_USER_PACKETS, is_from, user_count, user_packet, with_packet, with_place, without_front, without_packets, without_place};
-ghost use Rattle.zl_objects.specs.Ports.{at_port, changing_port, has_place_body, is_port_at, new_port, packets_in, packets_of, reserved_of};
+ghost use Rattle.zl_objects.specs.Ports.{at_port, changing_port, has_place_body, is_port_at, new_port, packets_found, packets_of, reserved_of};
 
 use crate::object::{Body, Object};
 use crate::objects::Objects;
@@ -134,7 +134,7 @@ impl Objects {
             (self.new ≡ changing_port self.old koid (λ p. with_packet p (user_packet key value))) }
         ensures unchanged { OnErr result (self.new ≡ self.old) }
         ensures should_wait { (result ≡ Err QueueFault.ShouldWait)
-            ↔ (MOST_USER_PACKETS ≤ user_count (packets_in (get self.old.objects koid))) }
+            ↔ (MOST_USER_PACKETS ≤ user_count (packets_found (get self.old.objects koid))) }
     {
         let Some(object) = self.by_koid.get_mut(&koid) else {
             return Ok(());
@@ -149,7 +149,7 @@ impl Objects {
     ///
     /// Source: the page "zx_port_wait" of the Fuchsia documentation.
     pub fn pop(&mut self, koid: Koid) -> Option<Packet>
-        ensures first { result ≡ slice_get (packets_in (get self.old.objects koid)) 0 }
+        ensures first { result ≡ slice_get (packets_found (get self.old.objects koid)) 0 }
         ensures rest { self.new ≡ changing_port self.old koid without_front }
     {
         self.by_koid.get_mut(&koid)?.pop()
@@ -163,7 +163,7 @@ impl Objects {
     pub fn cancel(&mut self, koid: Koid, source: Source, key: u64) -> usize
         ensures rest { self.new ≡ changing_port self.old koid (λ p. without_packets p (is_from source key)) }
         ensures count { result
-            ≡ length (filter (is_from source key) (packets_in (get self.old.objects koid))) }
+            ≡ length (filter (is_from source key) (packets_found (get self.old.objects koid))) }
     {
         let Some(object) = self.by_koid.get_mut(&koid) else {
             return 0;

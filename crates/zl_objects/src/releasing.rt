@@ -10,8 +10,8 @@ ghost use Rattle.std.specs.Ordering.{nat_cmp};
 ghost use Rattle.zl_rights.specs.Map.{each, get, has_key, update};
 ghost use Rattle.zl_objects.specs.Below.{looked_at};
 ghost use Rattle.zl_objects.specs.Calm.{is_marked, is_watched_in, KeepsCalm, StayStill};
-ghost use Rattle.zl_objects.specs.Objects.{held_once_less, is_kept, queue_of};
-ghost use Rattle.zl_objects.specs.Release.{all_koids, koids_of, named_in};
+ghost use Rattle.zl_objects.specs.Objects.{held_once_less, is_kept, queue_held};
+ghost use Rattle.zl_objects.specs.Release.{all_koids, koids_in, named_in};
 ghost use Rattle.zl_objects.specs.Dying.{budget, is_last, is_unkept, left_at, unkept_at, LetsGo};
 ghost use Rattle.zl_objects.specs.Index.{IsIndexed};
 ghost use Rattle.zl_objects.specs.Listed.{is_entry_there, AreListed};
@@ -57,7 +57,7 @@ pub fn let_go(by_koid: &mut BTreeMap<Koid, Object>, dying: &mut Vec<Koid>, koid:
 /// One handle less for each of these.
 fn let_go_all(by_koid: &mut BTreeMap<Koid, Object>, dying: &mut Vec<Koid>, handles: &[Entry])
     requires fits { budget by_koid.old.entries dying.old.items ≤ vec_capacity dying.old }
-    ensures goes { LetsGo (koids_of handles.now)
+    ensures goes { LetsGo (koids_in handles.now)
         by_koid.old.entries dying.old.items by_koid.new.entries dying.new.items }
     ensures still { StayStill by_koid.old.entries by_koid.new.entries }
     ensures capacity { vec_capacity dying.new ≡ vec_capacity dying.old }
@@ -83,7 +83,7 @@ fn let_go_queue(by_koid: &mut BTreeMap<Koid, Object>, dying: &mut Vec<Koid>, mut
 /// One handle less for each handle in the messages, if it is an end of a channel.
 fn let_go_body(by_koid: &mut BTreeMap<Koid, Object>, dying: &mut Vec<Koid>, body: Body)
     requires fits { budget by_koid.old.entries dying.old.items ≤ vec_capacity dying.old }
-    ensures goes { LetsGo (named_in (queue_of body))
+    ensures goes { LetsGo (named_in (queue_held body))
         by_koid.old.entries dying.old.items by_koid.new.entries dying.new.items }
     ensures still { StayStill by_koid.old.entries by_koid.new.entries }
     ensures capacity { vec_capacity dying.new ≡ vec_capacity dying.old }

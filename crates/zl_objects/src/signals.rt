@@ -3,7 +3,7 @@
 ghost use Rattle.std.specs.Prelude.{◌≡◌};
 ghost use Rattle.zl_rights.specs.Signals.{signal_if};
 ghost use Rattle.zl_objects.specs.Index.{IsIndexed};
-ghost use Rattle.zl_objects.specs.Signals.{implied, signals_at, AreActive};
+ghost use Rattle.zl_objects.specs.Signals.{implied_here, signals_at, AreActive};
 
 use crate::children::{Children, has_job_below, has_process_below};
 use crate::object::{Body, Object};
@@ -54,7 +54,7 @@ fn implied(
     body: &Body,
 ) -> Signals
     requires { IsIndexed children.now by_koid.now.entries }
-    ensures { result.0 ≡ implied by_koid.now.entries koid body.now }
+    ensures { result.0 ≡ implied_here by_koid.now.entries koid body.now }
 {
     match body {
         Body::Job(job) => {

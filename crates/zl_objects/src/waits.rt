@@ -4,11 +4,11 @@ ghost use Rattle.std.specs.Prelude.{◌≡◌, IsTrue, IfErr, IfNone, OnErr, OnO
 ghost use Rattle.std.specs.List.{find};
 ghost use Rattle.zl_rights.specs.Map.{get, has_key, update};
 ghost use Rattle.zl_port.specs.Packets.{with_packet, with_place, without_place};
-ghost use Rattle.zl_signals.specs.Waits.{holds, is_at_port, is_by_handle, is_keyed, wait_at};
+ghost use Rattle.zl_signals.specs.Waits.{is_at_port, is_by_handle_here, is_keyed_here, wait_at, watch_holds};
 ghost use Rattle.zl_objects.specs.Calm.{is_watched_in};
 ghost use Rattle.zl_objects.specs.Ports.{at_port, has_place_in, is_port_at};
-ghost use Rattle.zl_objects.specs.Listed.{holds_at, is_given_from, is_keyed_at, is_made_at, may_register, unlisting, watch_of, watching};
-ghost use Rattle.zl_objects.specs.Waits.{firing, next_in, packet_of, unwatched, unwatching, waits_in, watched, without_port_waits};
+ghost use Rattle.zl_objects.specs.Listed.{holds_at, is_given_from, is_keyed_at, is_made_at, may_register_here, unlisting, watch_of, watching};
+ghost use Rattle.zl_objects.specs.Waits.{firing, order_found, packet_here, unwatched, unwatching, waits_in, watched, without_port_waits};
 
 use crate::listing::unlist;
 use crate::object::Object;
@@ -33,8 +33,8 @@ impl Object {
 
     /// Takes out the earliest wait that the process made by its handle of this value.
     pub(crate) fn unwatch_handle(&mut self, pid: Pid, value: HValue) -> Option<Watch>
-        ensures earliest { result ≡ find (is_by_handle pid value) self.old.signals.waits }
-        ensures rest { self.new ≡ unwatched (is_by_handle pid value) self.old }
+        ensures earliest { result ≡ find (is_by_handle_here pid value) self.old.signals.waits }
+        ensures rest { self.new ≡ unwatched (is_by_handle_here pid value) self.old }
         ensures unchanged { IfNone result (self.new ≡ self.old) }
     {
         self.signals.unwatch_handle(pid, value)
@@ -65,8 +65,8 @@ impl Object {
         port: Koid,
         key: u64,
     ) -> Option<Watch>
-        ensures earliest { result ≡ find (is_keyed pid value port key) self.old.signals.waits }
-        ensures rest { self.new ≡ unwatched (is_keyed pid value port key) self.old }
+        ensures earliest { result ≡ find (is_keyed_here pid value port key) self.old.signals.waits }
+        ensures rest { self.new ≡ unwatched (is_keyed_here pid value port key) self.old }
         ensures unchanged { IfNone result (self.new ≡ self.old) }
     {
         self.signals.unwatch_key(pid, value, port, key)
@@ -74,8 +74,8 @@ impl Object {
 
     /// Takes out the earliest wait that holds.
     pub(crate) fn fire(&mut self, active: Signals) -> Option<Watch>
-        ensures earliest { result ≡ find (holds active.0) self.old.signals.waits }
-        ensures rest { self.new ≡ unwatched (holds active.0) self.old }
+        ensures earliest { result ≡ find (watch_holds active.0) self.old.signals.waits }
+        ensures rest { self.new ≡ unwatched (watch_holds active.0) self.old }
         ensures unchanged { IfNone result (self.new ≡ self.old) }
     {
         self.signals.fire(active)
@@ -93,7 +93,7 @@ impl Objects {
     pub fn watch(&mut self, wait: Wait) -> Result<(), AllocError>
         requires there { IsTrue (has_key self.old.objects wait.object) }
         requires port { IsTrue (is_port_at self.old.objects wait.port) }
-        requires may { IsTrue (may_register self.old) }
+        requires may { IsTrue (may_register_here self.old) }
         ensures ok { OnOk result (self.new ≡ watching self.old wait) }
         ensures unchanged { OnErr result (self.new ≡ self.old) }
     {
@@ -114,11 +114,12 @@ impl Objects {
     /// Source: the page "zx_object_wait_async" of the Fuchsia documentation: a wait ends with its
     /// handle.
     pub fn unwatch_handle(&mut self, koid: Koid, pid: Pid, value: HValue) -> Option<Watch>
-        ensures earliest { result ≡ find (is_by_handle pid value) (waits_in (get self.old.objects koid)) }
+        ensures earliest { result
+            ≡ find (is_by_handle_here pid value) (waits_in (get self.old.objects koid)) }
         ensures listed { option_map (wait_at koid) result
             ≡ find (is_made_at koid pid value) self.old.waits }
         ensures rest { self.new ≡ unwatching (unlisting (is_made_at koid pid value) self.old) koid
-            (is_by_handle pid value) }
+            (is_by_handle_here pid value) }
     {
         let wait = take_handle(&mut self.by_koid, koid, pid, value)?;
         unlist(&mut self.waits, wait.order);
@@ -154,12 +155,13 @@ impl Objects {
         port: Koid,
         key: u64,
     ) -> Option<Watch>
-        ensures earliest { result ≡ find (is_keyed pid value port key) (waits_in (get self.old.objects koid)) }
+        ensures earliest { result
+            ≡ find (is_keyed_here pid value port key) (waits_in (get self.old.objects koid)) }
         ensures listed { option_map (wait_at koid) result
             ≡ find (is_keyed_at koid pid value port key) self.old.waits }
         ensures rest { self.new ≡ unwatching
             (unlisting (is_keyed_at koid pid value port key) self.old) koid
-            (is_keyed pid value port key) }
+            (is_keyed_here pid value port key) }
         ensures unchanged { IfNone result (self.new ≡ self.old) }
     {
         let wait = take_key(&mut self.by_koid, koid, pid, value, port, key)?;
@@ -173,7 +175,7 @@ impl Objects {
     ///
     /// Source: own profile.
     pub fn next_order(&self, koid: Koid, active: Signals) -> Option<u64>
-        ensures { result ≡ next_in active.0 (get self.now.objects koid) }
+        ensures { result ≡ order_found active.0 (get self.now.objects koid) }
     {
         self.by_koid.get(&koid)?.signals.next_order(active)
     }
@@ -185,7 +187,8 @@ impl Objects {
     /// Source: the page "zx_object_wait_async" of the Fuchsia documentation; the order is own
     /// profile.
     pub fn fire(&mut self, koid: Koid, active: Signals) -> Option<Watch>
-        ensures earliest { result ≡ find (holds active.0) (waits_in (get self.old.objects koid)) }
+        ensures earliest { result
+            ≡ find (watch_holds active.0) (waits_in (get self.old.objects koid)) }
         ensures listed { option_map (wait_at koid) result
             ≡ find (holds_at koid active.0) self.old.waits }
         ensures rest { self.new ≡ firing (unlisting (holds_at koid active.0) self.old) koid active.0 }
@@ -283,7 +286,7 @@ pub fn is_watched(by_koid: &BTreeMap<Koid, Object>, koid: Koid) -> bool
 
 /// The packet of a wait that was registered at the object.
 fn packet_of(koid: Koid, active: Signals, wait: &Watch) -> Packet
-    ensures { result ≡ packet_of koid active.0 wait.now }
+    ensures { result ≡ packet_here koid active.0 wait.now }
 {
     Packet {
         kind: PacketKind::Signal,
@@ -306,9 +309,10 @@ fn take_handle(
     pid: Pid,
     value: HValue,
 ) -> Option<Watch>
-    ensures earliest { result ≡ find (is_by_handle pid value) (waits_in (get by_koid.old.entries koid)) }
+    ensures earliest { result
+        ≡ find (is_by_handle_here pid value) (waits_in (get by_koid.old.entries koid)) }
     ensures rest { by_koid.new.entries
-        ≡ update by_koid.old.entries koid (unwatched (is_by_handle pid value)) }
+        ≡ update by_koid.old.entries koid (unwatched (is_by_handle_here pid value)) }
 {
     by_koid.get_mut(&koid)?.unwatch_handle(pid, value)
 }
@@ -333,9 +337,10 @@ fn take_key(
     port: Koid,
     key: u64,
 ) -> Option<Watch>
-    ensures earliest { result ≡ find (is_keyed pid value port key) (waits_in (get by_koid.old.entries koid)) }
+    ensures earliest { result
+        ≡ find (is_keyed_here pid value port key) (waits_in (get by_koid.old.entries koid)) }
     ensures rest { by_koid.new.entries
-        ≡ update by_koid.old.entries koid (unwatched (is_keyed pid value port key)) }
+        ≡ update by_koid.old.entries koid (unwatched (is_keyed_here pid value port key)) }
 {
     by_koid.get_mut(&koid)?.unwatch_key(pid, value, port, key)
 }
@@ -343,9 +348,10 @@ fn take_key(
 /// Takes out the earliest wait at the object that holds; its place stays.
 #[tactic(auto, using(crate::proofs::ByKoid::by_koid))]
 fn take_holding(by_koid: &mut BTreeMap<Koid, Object>, koid: Koid, active: Signals) -> Option<Watch>
-    ensures earliest { result ≡ find (holds active.0) (waits_in (get by_koid.old.entries koid)) }
+    ensures earliest { result
+        ≡ find (watch_holds active.0) (waits_in (get by_koid.old.entries koid)) }
     ensures rest { by_koid.new.entries
-        ≡ update by_koid.old.entries koid (unwatched (holds active.0)) }
+        ≡ update by_koid.old.entries koid (unwatched (watch_holds active.0)) }
 {
     by_koid.get_mut(&koid)?.fire(active)
 }

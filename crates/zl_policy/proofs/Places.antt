@@ -2,20 +2,20 @@
 use Rattle.zl_rights.proofs.Common.{◌≡◌, ℕ, zero, suc, ◌+◌, ◌<◌, ◌||◌, Bool, true, false, not, is_empty, List, [], ◌∷◌, length, map, get_or, slice_set, refl}
 use Rattle.zl_rights.proofs.Common.{sym, ap, ◌∙◌, arith, eq-eqb, nat_tests, ne_eqb, Option, Some, None, is_some, list_any, Map, get, put}
 use Rattle.zl_rights.specs.declared.policy.Action.{Action}
-use Rattle.zl_policy.specs.Policies.{set_from, with_unset}
+use Rattle.zl_policy.specs.Policies.{actions_from, with_unset}
 
 -- ---- a row of places
 
 -- nothing is set below the first place
-below : (n k : ℕ) (places : List (Option Action)) → k < n → get (set_from n places) k ≡ None
-unfolding get set_from
+below : (n k : ℕ) (places : List (Option Action)) → k < n → get (actions_from n places) k ≡ None
+unfolding get actions_from
 below n k [] lower = refl
 below n k (None ∷ places) lower = below (n + 1) k places (omega (arith, lower))
 below n k (Some a ∷ places) lower = grind (arith, nat_tests, below (n + 1) k places, lower)
 
 -- what is set is what stands in the place
-set_from_at : (n k j : ℕ) (places : List (Option Action)) → j ≡ n + k → get (set_from n places) j ≡ get_or places k None
-unfolding get set_from
+set_from_at : (n k j : ℕ) (places : List (Option Action)) → j ≡ n + k → get (actions_from n places) j ≡ get_or places k None
+unfolding get actions_from
 set_from_at n k j [] is = refl
 set_from_at n zero j (None ∷ places) is = below (n + 1) j places (omega (arith, is))
 set_from_at n zero j (Some a ∷ places) is = rw (eq-eqb n j (omega (arith, is))) refl
@@ -24,16 +24,16 @@ set_from_at n (suc k) j (Some a ∷ places) is =
     rw (ne_eqb n j (λ same. omega (arith, is, same))) (set_from_at (n + 1) k j places (omega (arith, is)))
 
 -- a condition before the row goes first
-put_first : (n j : ℕ) (a : Action) (places : List (Option Action)) → j < n → put (set_from n places) j a ≡ (j, a) ∷ set_from n places
-unfolding put set_from
+put_first : (n j : ℕ) (a : Action) (places : List (Option Action)) → j < n → put (actions_from n places) j a ≡ (j, a) ∷ actions_from n places
+unfolding put actions_from
 put_first n j a [] lower = refl
 put_first n j a (None ∷ places) lower = put_first (n + 1) j a places (omega (arith, lower))
 put_first n j a (Some b ∷ places) lower = grind (arith, nat_tests, lower)
 
 -- one place more is set
 put_from : (n k j : ℕ) (a : Action) (places : List (Option Action)) → j ≡ n + k → k < length places → get_or places k None ≡ None
-    → put (set_from n places) j a ≡ set_from n (slice_set places k (Some a))
-unfolding put set_from
+    → put (actions_from n places) j a ≡ actions_from n (slice_set places k (Some a))
+unfolding put actions_from
 put_from n k j a [] is within unset = absurd (omega (arith, within))
 put_from n zero j a (None ∷ places) is within unset =
     let here : j ≡ n = omega (arith, is) in
@@ -44,15 +44,15 @@ put_from n (suc k) j a (Some b ∷ places) is within unset =
     let rest = put_from (n + 1) k j a places (omega (arith, is)) (omega (arith, within)) unset in
     grind (arith, nat_tests, is, rest)
 
-pub set_at : (k : ℕ) (places : List (Option Action)) → get (set_from 0 places) k ≡ get_or places k None
+pub set_at : (k : ℕ) (places : List (Option Action)) → get (actions_from 0 places) k ≡ get_or places k None
 set_at k places = set_from_at 0 k k places (omega arith)
 
 -- the place of the condition is written
-pub set_more : (k : ℕ) (a : Action) (places : List (Option Action)) → k < length places → is_some (get (set_from 0 places) k) ≡ false
-    → set_from 0 (slice_set places k (Some a)) ≡ with_unset a (set_from 0 places) k
+pub set_more : (k : ℕ) (a : Action) (places : List (Option Action)) → k < length places → is_some (get (actions_from 0 places) k) ≡ false
+    → actions_from 0 (slice_set places k (Some a)) ≡ with_unset a (actions_from 0 places) k
 unfolding with_unset
 set_more k a places within unset =
-    rw unset (sym (put_from 0 k k a places (omega arith) within (sym (set_at k places) ∙ none (get (set_from 0 places) k) unset)))
+    rw unset (sym (put_from 0 k k a places (omega arith) within (sym (set_at k places) ∙ none (get (actions_from 0 places) k) unset)))
   where
     none : (o : Option Action) → is_some o ≡ false → o ≡ None
     none None h = refl
@@ -73,8 +73,8 @@ any_numbered number test (c ∷ cs) = ap (λ b. test (number c) || b) (any_numbe
 -- ---- the whole row
 
 -- an action stands in one of the places just where something is set
-pub any_set : (n : ℕ) (places : List (Option Action)) → list_any (λ a. is_some a) places ≡ not (is_empty (set_from n places))
-unfolding set_from
+pub any_set : (n : ℕ) (places : List (Option Action)) → list_any (λ a. is_some a) places ≡ not (is_empty (actions_from n places))
+unfolding actions_from
 any_set n [] = refl
 any_set n (None ∷ places) = any_set (n + 1) places
 any_set n (Some a ∷ places) = refl

@@ -6,7 +6,7 @@ pub use Rattle.zl_rights.specs.Policies.{action_in, answer_of, conditions_of, is
 unfoldable pub use Rattle.zl_rights.specs.Policies.{conflicts, policy_set, with_unset}
 
 -- what is set in a row of places, of which the first has the number n
-unfoldable pub set_from : ℕ → List (Option Action) → Map Action
-set_from n [] = []
-set_from n (None ∷ places) = set_from (n + 1) places
-set_from n (Some a ∷ places) = (n, a) ∷ set_from (n + 1) places
+unfoldable pub actions_from : ℕ → List (Option Action) → Map Action
+actions_from n [] = []
+actions_from n (None ∷ places) = actions_from (n + 1) places
+actions_from n (Some a ∷ places) = (n, a) ∷ actions_from (n + 1) places

@@ -22,11 +22,11 @@ impl Model for Policy {
     ghost use Rattle.std.specs.Prelude.{◌≡◌, length};
     ghost use Rattle.zl_rights.specs.Map.{Map};
     ghost use Rattle.zl_rights.specs.declared.policy.Action.{Action};
-    ghost use Rattle.zl_policy.specs.Policies.{set_from};
+    ghost use Rattle.zl_policy.specs.Policies.{actions_from};
 
     ghost Value = { Map Action };
 
-    ghost view = { λ p. set_from 0 p.actions };
+    ghost view = { λ p. actions_from 0 p.actions };
 
     ghost invariant = { λ p. length p.actions ≡ 8 };
 }
@@ -36,7 +36,7 @@ impl Policy {
     const PLACES: usize = 8;
 
     /// The policy in which nothing is set.
-    #[tactic(auto, unfolding(crate::specs::Policies::set_from))]
+    #[tactic(auto, unfolding(crate::specs::Policies::actions_from))]
     pub fn new() -> Policy
         ensures { result ≡ [] }
     {

@@ -42,12 +42,12 @@ unfoldable pub use Rattle.zl_rights.specs.Wakes.{made_ready}
 pub use Rattle.zl_rights.specs.World.{Awaited}
 pub use Rattle.zl_rights.specs.declared.entry.Entry.{Entry}
 pub use Rattle.zl_rights.specs.declared.status.Status.{Status}
-pub use Rattle.zl_sched.specs.Follows.{EndsBy, Follows, StopsBefore, ends, goes, skips, turns_of}
+pub use Rattle.zl_sched.specs.Follows.{EndsBy, Follows, StopsBefore, goes, halts, skips, turns_of}
 pub use Rattle.zl_sched.specs.HandIn.{Accepts, Changes, Ends, EndsFrom, GoesFrom, HasRoom, IsAwaited, is_more, put_back, run_items, unmarked}
 pub use Rattle.zl_sched.specs.Queueing.{IsTold, change_of, few_if, joining, joins, leaves_others, leaves_ready, may_kill, one_if, requeued, woken_but}
 pub use Rattle.zl_sched.specs.Ready.{Listed, became_ready, is_in, is_ready_or_over, itself_ready, others_of, pids_of, queued_after, ready_by_koid, still_ready}
-pub use Rattle.zl_sched.specs.Ready.{times}
-pub use Rattle.zl_sched.specs.System.{Adds, HasBooted, IsLegal, IsWhole, Runs, System, Turns, Walks, may_step, room_of}
+pub use Rattle.zl_sched.specs.Ready.{times_in}
+pub use Rattle.zl_sched.specs.System.{Adds, HasBooted, IsLegal, IsWhole, RunsHere, System, Turns, Walks, may_step, room_of}
 pub use Rattle.zl_sched.specs.declared.change.Change.{Change}
 pub use Rattle.zl_sched.specs.declared.system.End.{End}
 pub use Rattle.zl_verify.proofs.CallEnds.{call_ends}

@@ -1,6 +1,6 @@
 -- A run that is computed along a schedule follows it.
-use Rattle.zl_sched.proofs.Common.{Bool, Choice, Follows, Library, List, None, Some, TraceItem, World, [], ap, ends, false, goes, is_process, is_ready, is_some}
-use Rattle.zl_sched.proofs.Common.{map, refl, skips, true, ℕ, ◌∷◌, ◌≡◌}
+use Rattle.zl_sched.proofs.Common.{Bool, Choice, Follows, Library, List, None, Some, TraceItem, World, [], ap, false, goes, halts, is_process, is_ready}
+use Rattle.zl_sched.proofs.Common.{is_some, map, refl, skips, true, ℕ, ◌∷◌, ◌≡◌}
 use Rattle.zl_code.proofs.Running.{Acted, step_by, step_by-Step, Went, onto, items_of, world_after}
 
 -- the turns, one after another, each with the choice that the definitions leave open; those of processes that aren't ready are skipped
@@ -43,7 +43,7 @@ follow_by-Follows lib w [] items w2 e =
     let both : ◌≡◌ {A = List TraceItem × World} (items, w2) ([], w) = cc in
     let none : items ≡ [] = ap (λ (t : List TraceItem × World). t.0) both in
     let same : w2 ≡ w = ap (λ (t : List TraceItem × World). t.1) both in
-    rw (none, same) (ends w)
+    rw (none, same) (halts w)
 follow_by-Follows lib w (turn ∷ turns) items w2 e =
     turn_by lib w turn turns (is_process w is_ready turn.0) (step_by lib w turn.0 turn.1) refl refl
     (λ v items w2 f. follow_by-Follows lib v turns items w2 f) items w2 e

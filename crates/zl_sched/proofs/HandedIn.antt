@@ -2,14 +2,14 @@
 use Rattle.zl_sched.proofs.Common.{Accepts, Bool, Change, Changes, Done, Ends, GoesFrom, HasRoom, IsAwaited, IsLegalHistory, IsSound, IsTold, IsWhole, List}
 use Rattle.zl_sched.proofs.Common.{Listed, Machine, None, State, System, TraceItem, [], advanced, ap, arith, change_of, false, get, if◌then◌else◌, is_in}
 use Rattle.zl_sched.proofs.Common.{is_more, is_process, is_ready, length, length-append, lives, others_of, pid_of, put_back, queued_after, refl, requeued}
-use Rattle.zl_sched.proofs.Common.{run_items, run_sound, step_sound, subst, sym, times, true, unmarked, ℕ, ◌++◌, ◌+◌, ◌==◌, ◌∙◌, ◌∷◌, ◌≡◌, ◌≤◌}
+use Rattle.zl_sched.proofs.Common.{run_items, run_sound, step_sound, subst, sym, times_in, true, unmarked, ℕ, ◌++◌, ◌+◌, ◌==◌, ◌∙◌, ◌∷◌, ◌≡◌, ◌≤◌}
 use Rattle.zl_code.specs.declared.history.TraceItem.TheVariants as item
 use Rattle.zl_sched.specs.declared.change.Change.TheVariants as change
 use Rattle.zl_sched.proofs.ReadyChange.{IsChanged, changed, changed_from, unchanged}
 use Rattle.zl_sched.proofs.Fresh.{made_not_ready}
 use Rattle.zl_code.specs.OwnBoot.{own_boot}
 use Rattle.zl_code.specs.OwnHistory.{OwnHistory}
-use Rattle.zl_calls.specs.World.{own_of}
+use Rattle.zl_calls.specs.World.{own_here}
 use Rattle.zl_sched.proofs.Legal.{history_then, nothing_legal, own_item, own_run, own_then, run_legal, step_legal}
 use Rattle.zl_sched.proofs.MarksKept.{state_kept, place_still}
 use Rattle.zl_sched.proofs.MarksMoved.{OthersStay, others_left, step_stays, local_stays, stays_then, before, after_listed, after_room, not_listed, takes_listed}
@@ -53,11 +53,11 @@ ends_legal false m p last m2 (x, is, taken, own) =
     (step_legal m.programs m.world (pid_of x) x m2.world taken.steps.step)
 
 ends_own : (more : Bool) (m : Machine) (p : ℕ) (last : List TraceItem) (m2 : Machine) → Ends more m p last m2
-    → OwnHistory m.programs (own_of m) last (own_of m2)
-ends_own true m p last m2 (none, same) = subst (λ (xs : List TraceItem). OwnHistory m.programs (own_of m) xs (own_of m2)) (sym none) (ap own_of same)
+    → OwnHistory m.programs (own_here m) last (own_here m2)
+ends_own true m p last m2 (none, same) = subst (λ (xs : List TraceItem). OwnHistory m.programs (own_here m) xs (own_here m2)) (sym none) (ap own_here same)
 ends_own false m p last m2 (x, is, taken, own) =
-    subst (λ (xs : List TraceItem). OwnHistory m.programs (own_of m) xs (own_of m2)) (sym is)
-    (own_of m2, own_item m.programs (own_of m) p x (own_of m2) taken.pid_is taken.steps.step own, refl)
+    subst (λ (xs : List TraceItem). OwnHistory m.programs (own_here m) xs (own_here m2)) (sym is)
+    (own_here m2, own_item m.programs (own_here m) p x (own_here m2) taken.pid_is taken.steps.step own, refl)
 
 ends_programs : (more : Bool) (m : Machine) (p : ℕ) (last : List TraceItem) (m2 : Machine) → Ends more m p last m2 → m2.programs ≡ m.programs
 ends_programs true m p last m2 (none, same) = ap (λ (x : Machine). x.programs) same
@@ -145,7 +145,7 @@ module _ (s : System) (whole : IsWhole s) (d : Done) (awaited : IsAwaited s d) (
   pub requeued_room : length (requeued m2.world d.pid left s.ready) ≤ length s.machine.world.processes
   requeued_room = subst (λ (ys : List ℕ). length ys ≤ length s.machine.world.processes) (sym requeued_so) (omega (arith, accepted_room))
 
-  pub absent : times d.pid s.ready ≡ 0
+  pub absent : times_in d.pid s.ready ≡ 0
   absent = not_listed s.machine.world s.ready s.out whole.listed d.pid awaited.out awaited.ready
 
   pub goes_told : IsTold m2.world d.pid left s.ready c
@@ -161,10 +161,10 @@ module _ (s : System) (whole : IsWhole s) (d : Done) (awaited : IsAwaited s d) (
       = history_then s.machine.programs whole.legal.boot s.machine.world m2.world s.items (run_items d.pid d.ran ++ goes.last) whole.legal.history
       (history_then s.machine.programs s.machine.world mid.world m2.world (run_items d.pid d.ran) goes.last local_history
       (ends_legal (is_more d.stop) mid d.pid goes.last m2 goes.ends)) in
-      let own : OwnHistory s.machine.programs (own_boot s.machine.programs s.statements) (s.items ++ (run_items d.pid d.ran ++ goes.last)) (own_of m2)
-      = own_then s.machine.programs _ (own_of s.machine) (own_of m2) s.items (run_items d.pid d.ran ++ goes.last) whole.legal.own
-      (own_then s.machine.programs (own_of s.machine) (own_of mid) (own_of m2) (run_items d.pid d.ran) goes.last
-      (own_run s.machine.programs (own_of s.machine) d.pid d.ran mid.world goes.steps) (ends_own (is_more d.stop) mid d.pid goes.last m2 goes.ends)) in
+      let own : OwnHistory s.machine.programs (own_boot s.machine.programs s.statements) (s.items ++ (run_items d.pid d.ran ++ goes.last)) (own_here m2)
+      = own_then s.machine.programs _ (own_here s.machine) (own_here m2) s.items (run_items d.pid d.ran ++ goes.last) whole.legal.own
+      (own_then s.machine.programs (own_here s.machine) (own_here mid) (own_here m2) (run_items d.pid d.ran) goes.last
+      (own_run s.machine.programs (own_here s.machine) d.pid d.ran mid.world goes.steps) (ends_own (is_more d.stop) mid d.pid goes.last m2 goes.ends)) in
       record {
         legal = record {
           boot = whole.legal.boot;

@@ -1,7 +1,7 @@
 -- What becomes of the list and the marks: a process is taken out, put back, forgotten, or did something.
 use Rattle.zl_sched.proofs.Common.{Bool, IsSound, IsTrue, Library, List, Listed, None, Process, Step, TraceItem, World, [], ap, arith, cases_Bool, eqb-true}
 use Rattle.zl_sched.proofs.Common.{false, false≢true, get, if◌then◌else◌, inl, inr, is_in, is_process, is_ready, is_ready_or_over, length, length-append, lives}
-use Rattle.zl_sched.proofs.Common.{nat_tests, not, on_process, others_of, queued_after, refl, subst, suc, sym, times, times-other, true, ℕ, ◌&&◌, ◌++◌, ◌+◌}
+use Rattle.zl_sched.proofs.Common.{nat_tests, not, on_process, others_of, queued_after, refl, subst, suc, sym, times-other, times_in, true, ℕ, ◌&&◌, ◌++◌, ◌+◌}
 use Rattle.zl_sched.proofs.Common.{◌==◌, ◌∙◌, ◌∷◌, ◌≡◌, ◌≤◌}
 use Rattle.zl_sched.proofs.Counted.{times-append}
 use Rattle.zl_sched.proofs.Marked.{some_mark, no_mark, counted_mark, listed_but, listed_by, self_unmarked, others_marked, fewer_marks, left_marked}
@@ -18,7 +18,7 @@ module _ (w : World) (ready out : List ℕ) (listed : Listed w ready out) (p : �
   first_ready rest first = elim (cases_Bool (is_process w is_ready p)) as (λ _. is_process w is_ready p ≡ true) [
     | inl is ↦ is
     | inr busy ↦
-        let split : times p ready ≡ times p (p ∷ []) + times p rest = ap (times p) first ∙ times-append p (p ∷ []) rest in
+        let split : times_in p ready ≡ times_in p (p ∷ []) + times_in p rest = ap (times_in p) first ∙ times-append p (p ∷ []) rest in
         absurd (omega (arith, listed.alone p busy, split, times_self p))
   ]
 
@@ -26,7 +26,7 @@ module _ (w : World) (ready out : List ℕ) (listed : Listed w ready out) (p : �
   takes_listed rest first = record {
     once = λ k is. omega (arith, listed.once k is, split k, behind k);
     alone = λ k busy. omega (arith, listed.alone k busy, split k);
-    marks = λ k. elim (cases_Bool (is_process w is_ready k)) as (λ _. times k (out ++ (p ∷ [])) ≤ 1) [
+    marks = λ k. elim (cases_Bool (is_process w is_ready k)) as (λ _. times_in k (out ++ (p ∷ [])) ≤ 1) [
       | inl is ↦ omega (arith, listed.once k is, split k, behind k)
       | inr busy ↦ omega (arith, listed.alone k busy, split k, behind k, listed.marks k)
     ];
@@ -36,10 +36,10 @@ module _ (w : World) (ready out : List ℕ) (listed : Listed w ready out) (p : �
     ];
   }
     where
-      split : (k : ℕ) → times k ready ≡ times k (p ∷ []) + times k rest
-      split k = ap (times k) first ∙ times-append k (p ∷ []) rest
+      split : (k : ℕ) → times_in k ready ≡ times_in k (p ∷ []) + times_in k rest
+      split k = ap (times_in k) first ∙ times-append k (p ∷ []) rest
 
-      behind : (k : ℕ) → times k (out ++ (p ∷ [])) ≡ times k out + times k (p ∷ [])
+      behind : (k : ℕ) → times_in k (out ++ (p ∷ [])) ≡ times_in k out + times_in k (p ∷ [])
       behind k = times-append k out (p ∷ [])
 
   pub taken_room : (rest : List ℕ) → ready ≡ p ∷ rest → length rest + length (out ++ (p ∷ [])) ≡ length ready + length out
@@ -47,12 +47,12 @@ module _ (w : World) (ready out : List ℕ) (listed : Listed w ready out) (p : �
       let one : length (p ∷ []) ≡ 1 = refl in
       omega (arith, ap length first, length-append (p ∷ []) rest, length-append out (p ∷ []), one)
 
-  others : (k : ℕ) → (k == p) ≡ false → times k (others_of p out) ≡ times k out
+  others : (k : ℕ) → (k == p) ≡ false → times_in k (others_of p out) ≡ times_in k out
   others k apart = times-other p k (other_way k p apart) out
 
   pub forgets_listed : is_process w lives p ≡ false → Listed w ready (others_of p out)
   forgets_listed over = record {
-    once = λ k is. elim (cases_Bool (k == p)) as (λ _. times k ready + times k (others_of p out) ≡ 1) [
+    once = λ k is. elim (cases_Bool (k == p)) as (λ _. times_in k ready + times_in k (others_of p out) ≡ 1) [
       | inl here ↦ absurd (false≢true (sym (over_not_ready w p over) ∙ (ap (λ (j : ℕ). is_process w is_ready j) (sym (eqb-true k p here)) ∙ is)))
       | inr apart ↦ omega (arith, listed.once k is, others k apart)
     ];
@@ -63,23 +63,23 @@ module _ (w : World) (ready out : List ℕ) (listed : Listed w ready out) (p : �
 
   -- a process that is out and ready has one mark, and isn't in the list
   module _ (marked : is_in p out ≡ true) (is : is_process w is_ready p ≡ true) where
-    one_mark : times p out ≡ 1
+    one_mark : times_in p out ≡ 1
     one_mark = omega (arith, some_mark p out marked, listed.marks p)
 
-    pub not_listed : times p ready ≡ 0
+    pub not_listed : times_in p ready ≡ 0
     not_listed = omega (arith, one_mark, listed.once p is)
 
-    itself : times p (others_of p out) ≡ 0
+    itself : times_in p (others_of p out) ≡ 0
     itself = no_mark p (others_of p out) (self_unmarked p out)
 
     pub puts_back_listed : Listed w (ready ++ (p ∷ [])) (others_of p out)
     puts_back_listed = record {
-      once = λ k now. elim (cases_Bool (k == p)) as (λ _. times k (ready ++ (p ∷ [])) + times k (others_of p out) ≡ 1) [
-        | inl here ↦ subst (λ (j : ℕ). times j (ready ++ (p ∷ [])) + times j (others_of p out) ≡ 1) (sym (eqb-true k p here))
+      once = λ k now. elim (cases_Bool (k == p)) as (λ _. times_in k (ready ++ (p ∷ [])) + times_in k (others_of p out) ≡ 1) [
+        | inl here ↦ subst (λ (j : ℕ). times_in j (ready ++ (p ∷ [])) + times_in j (others_of p out) ≡ 1) (sym (eqb-true k p here))
             (omega (arith, times-append p ready (p ∷ []), not_listed, times_self p, itself))
         | inr apart ↦ omega (arith, times-append k ready (p ∷ []), times_none p k apart, others k apart, listed.once k now)
       ];
-      alone = λ k busy. elim (cases_Bool (k == p)) as (λ _. times k (ready ++ (p ∷ [])) ≡ 0) [
+      alone = λ k busy. elim (cases_Bool (k == p)) as (λ _. times_in k (ready ++ (p ∷ [])) ≡ 0) [
         | inl here ↦ absurd (false≢true (sym busy ∙ (ap (λ (j : ℕ). is_process w is_ready j) (eqb-true k p here) ∙ is)))
         | inr apart ↦ omega (arith, times-append k ready (p ∷ []), times_none p k apart, listed.alone k busy)
       ];
@@ -118,7 +118,7 @@ stays_then w mid after p first rest k apart passes =
 pub record LeavesMarks (p : ℕ) (out left : List ℕ) : Type 0 where
   pub none : is_in p left ≡ false
   pub same : (k : ℕ) → (k == p) ≡ false → is_in k left ≡ is_in k out
-  pub fewer : (k : ℕ) → times k left ≤ times k out
+  pub fewer : (k : ℕ) → times_in k left ≤ times_in k out
 
 pub all_left : (p : ℕ) (out : List ℕ) → is_in p out ≡ false → LeavesMarks p out out
 all_left p out none = record { none = none; same = λ k apart. refl; fewer = λ k. omega arith }
@@ -166,15 +166,15 @@ pub empty_where_idle : (w : World) (ready out : List ℕ) → Listed w ready out
     → ((k : ℕ) → is_process w is_ready k ≡ false) → IsTrue is_empty
 empty_where_idle w [] out listed is_empty is none = rw is refl
 empty_where_idle w (x ∷ rest) out listed is_empty is none =
-    let there : times x (x ∷ rest) ≡ times x (x ∷ []) + times x rest = times-append x (x ∷ []) rest in
+    let there : times_in x (x ∷ rest) ≡ times_in x (x ∷ []) + times_in x rest = times-append x (x ∷ []) rest in
     absurd (omega (arith, there, times_self x, listed.alone x (none x)))
 
 -- where the list is empty and nobody has a mark, nobody is ready
 pub idle_where_empty : (w : World) (ready out : List ℕ) → Listed w ready out → ready ≡ [] → out ≡ [] → (k : ℕ) → is_process w is_ready k ≡ false
 idle_where_empty w ready out listed none_ready none_out k = elim (cases_Bool (is_process w is_ready k)) as (λ _. is_process w is_ready k ≡ false) [
   | inl is ↦
-      let none_here : times k ready ≡ 0 = ap (times k) none_ready in
-      let none_there : times k out ≡ 0 = ap (times k) none_out in
+      let none_here : times_in k ready ≡ 0 = ap (times_in k) none_ready in
+      let none_there : times_in k out ≡ 0 = ap (times_in k) none_out in
       absurd (omega (arith, listed.once k is, none_here, none_there))
   | inr busy ↦ busy
 ]

@@ -4,7 +4,7 @@ use Rattle.zl_sched.proofs.Common.{cases_Bool, drop, eq-eqb, eqb-true, false, fa
 use Rattle.zl_sched.proofs.Common.{is_in, is_process, is_ready, is_some, itself_ready, joins, length, length-append, length-filter_both, list_any, nat_lt}
 use Rattle.zl_sched.proofs.Common.{nat_tests, none-some, none_filtered, not, one_if, pids_of, position, position_or_len, queued_after, ready_by_koid, refl}
 use Rattle.zl_sched.proofs.Common.{replicate, requeued, slice_get, state_passes, still_ready, subst, suc, sym, take, take-append-drop, take_all, take_more}
-use Rattle.zl_sched.proofs.Common.{times, true, woken_but, ℕ, ◌&&◌, ◌++◌, ◌+◌, ◌-◌, ◌<◌, ◌==◌, ◌∙◌, ◌∷◌, ◌≡◌, ◌≤◌, []}
+use Rattle.zl_sched.proofs.Common.{times_in, true, woken_but, ℕ, ◌&&◌, ◌++◌, ◌+◌, ◌-◌, ◌<◌, ◌==◌, ◌∙◌, ◌∷◌, ◌≡◌, ◌≤◌, []}
 use Rattle.std.proofs.lemmas.Map.Views.{any-filter_same}
 use Rattle.zl_sched.specs.declared.change.Change.TheVariants as change
 use Rattle.zl_sched.proofs.ReadyChange.{IsChanged, OthersCome, OthersReady}
@@ -21,7 +21,7 @@ none_passes : (xs : List ℕ) → filter (λ k. false) xs ≡ []
 none_passes [] = refl
 none_passes (x ∷ xs) = none_passes xs
 
-one_passes : (q : ℕ) (xs : List ℕ) → times q xs ≡ 1 → filter (λ k. k == q) xs ≡ q ∷ []
+one_passes : (q : ℕ) (xs : List ℕ) → times_in q xs ≡ 1 → filter (λ k. k == q) xs ≡ q ∷ []
 one_passes q xs once = all_alike xs ∙ ap (λ (n : ℕ). replicate n q) once
   where
     by_test : (x : ℕ) (ys : List ℕ) (b : Bool) → (x == q) ≡ b → ys ≡ replicate (length ys) q
@@ -29,19 +29,19 @@ one_passes q xs once = all_alike xs ∙ ap (λ (n : ℕ). replicate n q) once
     by_test x ys true here e = (λ i. eqb-true x q here i ∷ e i)
     by_test x ys false here e = e
 
-    all_alike : (ys : List ℕ) → filter (λ k. k == q) ys ≡ replicate (times q ys) q
+    all_alike : (ys : List ℕ) → filter (λ k. k == q) ys ≡ replicate (times_in q ys) q
     all_alike [] = refl
     all_alike (x ∷ ys) = by_test x (filter (λ k. k == q) ys) (x == q) refl (all_alike ys)
 
 -- tests that agree on what stands in the list
-alike : (f g : ℕ → Bool) (xs : List ℕ) → ((k : ℕ) → 0 < times k xs → f k ≡ g k) → filter f xs ≡ filter g xs
+alike : (f g : ℕ → Bool) (xs : List ℕ) → ((k : ℕ) → 0 < times_in k xs → f k ≡ g k) → filter f xs ≡ filter g xs
 alike f g [] same = refl
 alike f g (x ∷ xs) same = rw (same x at_front) (by_test (g x) (alike f g xs (λ k some. same k (further k some (x == k)))))
   where
-    at_front : 0 < times x (x ∷ xs)
+    at_front : 0 < times_in x (x ∷ xs)
     at_front = rw (eq-eqb x x refl) (omega arith)
 
-    further : (k : ℕ) → 0 < times k xs → (c : Bool) → 0 < length (if c then x ∷ filter (λ q. q == k) xs else filter (λ q. q == k) xs)
+    further : (k : ℕ) → 0 < times_in k xs → (c : Bool) → 0 < length (if c then x ∷ filter (λ q. q == k) xs else filter (λ q. q == k) xs)
     further k some true = omega arith
     further k some false = some
 
@@ -50,21 +50,21 @@ alike f g (x ∷ xs) same = rw (same x at_front) (by_test (g x) (alike f g xs (�
     by_test false e = e
 
 -- where the process isn't found, it doesn't stand
-pub not_found : (p : ℕ) (xs : List ℕ) → position (λ q. q == p) xs ≡ None → times p xs ≡ 0
+pub not_found : (p : ℕ) (xs : List ℕ) → position (λ q. q == p) xs ≡ None → times_in p xs ≡ 0
 not_found p xs none = by_length (nat_lt (position_or_len (λ q. q == p) xs) (length xs)) refl none
   where
-    past : (ys : List ℕ) → length ys ≤ position_or_len (λ q. q == p) ys → times p ys ≡ 0
+    past : (ys : List ℕ) → length ys ≤ position_or_len (λ q. q == p) ys → times_in p ys ≡ 0
     past [] all = refl
     past (y ∷ ys) all = by_test (y == p) all (past ys)
       where
         by_test : (b : Bool) → suc (length ys) ≤ (if not b then 1 + position_or_len (λ q. q == p) ys else 0)
-            → (length ys ≤ position_or_len (λ q. q == p) ys → times p ys ≡ 0)
+            → (length ys ≤ position_or_len (λ q. q == p) ys → times_in p ys ≡ 0)
             → ◌≡◌ {A = ℕ} (length (if b then y ∷ filter (λ q. q == p) ys else filter (λ q. q == p) ys)) 0
         by_test true all rest = absurd (omega (arith, all))
         by_test false all rest = rest (omega (arith, all))
 
     by_length : (b : Bool) → nat_lt (position_or_len (λ q. q == p) xs) (length xs) ≡ b
-        → (if b then Some (position_or_len (λ q. q == p) xs) else None) ≡ None → times p xs ≡ 0
+        → (if b then Some (position_or_len (λ q. q == p) xs) else None) ≡ None → times_in p xs ≡ 0
     by_length true is none = absurd (none-some _ (sym none))
     by_length false is none = past xs (grind (arith, nat_tests, is))
 
@@ -80,10 +80,10 @@ ready_key w k ready = by_process (get w.processes k) ready
     by_process None h = absurd (cc)
 
 -- the ready ones by koid are each ready process once
-pub by_koid_ready : (w : World) → IsSound w → (k : ℕ) → times k (ready_by_koid w) ≡ (if is_process w is_ready k then 1 else 0)
+pub by_koid_ready : (w : World) → IsSound w → (k : ℕ) → times_in k (ready_by_koid w) ≡ (if is_process w is_ready k then 1 else 0)
 by_koid_ready w sound k = times-filter (λ q. is_process w is_ready q) k (pids_of w) ∙ by_test (is_process w is_ready k) refl
   where
-    by_test : (b : Bool) → is_process w is_ready k ≡ b → (if b then times k (pids_of w) else 0) ≡ (if b then 1 else 0)
+    by_test : (b : Bool) → is_process w is_ready k ≡ b → (if b then times_in k (pids_of w) else 0) ≡ (if b then 1 else 0)
     by_test true e = key_once k w.processes sound.handles.processes (ready_key w k e)
     by_test false e = refl
 
@@ -92,7 +92,7 @@ by_koid_ready w sound k = times-filter (λ q. is_process w is_ready q) k (pids_o
 pub record Before (w after : World) (p : ℕ) (list out : List ℕ) : Type 0 where
   pub ready : is_process w is_ready p ≡ true
   pub unmarked : is_in p out ≡ false
-  pub others : (k : ℕ) → (k == p) ≡ false → times k list ≡ (if is_process w is_ready k && not (is_in k out) then 1 else 0)
+  pub others : (k : ℕ) → (k == p) ≡ false → times_in k list ≡ (if is_process w is_ready k && not (is_in k out) then 1 else 0)
   pub stay : (k : ℕ) → is_in k out ≡ true → is_process after is_ready k ≡ true → is_process w is_ready k ≡ true
 
 module _ (w after : World) (p : ℕ) (list out : List ℕ) (b : Before w after p list out) where
@@ -126,17 +126,17 @@ module _ (w after : World) (p : ℕ) (list out : List ℕ) (b : Before w after p
 
   -- ---- each ready process that isn't out is in it once
 
-  itself_other : (k : ℕ) → (p == k) ≡ false → (c : Bool) → times k (if c then p ∷ [] else []) ≡ 0
+  itself_other : (k : ℕ) → (p == k) ≡ false → (c : Bool) → times_in k (if c then p ∷ [] else []) ≡ 0
   itself_other k apart true = rw apart refl
   itself_other k apart false = refl
 
-  itself_here : (c : Bool) → times p (if c then p ∷ [] else []) ≡ (if c then 1 else 0)
+  itself_here : (c : Bool) → times_in p (if c then p ∷ [] else []) ≡ (if c then 1 else 0)
   itself_here true = rw (eq-eqb p p refl) refl
   itself_here false = refl
 
-  parts : (k : ℕ) → times k (queued_after w p after list)
-      ≡ (if is_process after is_ready k && not (k == p) then times k list else 0)
-      + ((if is_process after is_ready k && not (is_process w is_ready k) then times k (pids_of after) else 0) + times k (itself_ready after p))
+  parts : (k : ℕ) → times_in k (queued_after w p after list)
+      ≡ (if is_process after is_ready k && not (k == p) then times_in k list else 0)
+      + ((if is_process after is_ready k && not (is_process w is_ready k) then times_in k (pids_of after) else 0) + times_in k (itself_ready after p))
   parts k = times-append k (still_ready after p list) _
       ∙ rw (
         times-append k (became_ready w after) (itself_ready after p),
@@ -144,7 +144,7 @@ module _ (w after : World) (p : ℕ) (list out : List ℕ) (b : Before w after p
         times-filter (λ q. is_process after is_ready q && not (is_process w is_ready q)) k (pids_of after),
       ) refl
 
-  at_itself : (now : Bool) → (if now && not true then times p list else 0) + ((if now && not true then times p
+  at_itself : (now : Bool) → (if now && not true then times_in p list else 0) + ((if now && not true then times_in p
       (pids_of after) else 0) + (if now then 1 else 0)) ≡ (if now && not false then 1 else 0)
   at_itself true = refl
   at_itself false = refl
@@ -158,13 +158,13 @@ module _ (w after : World) (p : ℕ) (list out : List ℕ) (b : Before w after p
   at_other true false false n m counted once stay = omega (arith, counted, once refl)
 
   pub queued_ready : IsSound after → AreBut after out (queued_after w p after list)
-  queued_ready sound k = elim (cases_Bool (k == p)) as (λ _. times k
+  queued_ready sound k = elim (cases_Bool (k == p)) as (λ _. times_in k
       (queued_after w p after list) ≡ (if is_process after is_ready k && not (is_in k out) then 1 else 0)) [
-        | inl here ↦ subst (λ (j : ℕ). times j (queued_after w p after list) ≡ (if is_process after is_ready j && not (is_in j out) then 1 else 0))
+        | inl here ↦ subst (λ (j : ℕ). times_in j (queued_after w p after list) ≡ (if is_process after is_ready j && not (is_in j out) then 1 else 0))
             (sym (eqb-true k p here))
             (parts p ∙ rw (eq-eqb p p refl, b.ready, b.unmarked, itself_here (is_process after is_ready p)) (at_itself (is_process after is_ready p)))
         | inr apart ↦ parts k ∙ rw (apart, itself_other k (other_way k p apart) (is_process after is_ready p))
-            (at_other (is_process after is_ready k) (is_process w is_ready k) (is_in k out) (times k list) (times k (pids_of after)) (b.others k apart)
+            (at_other (is_process after is_ready k) (is_process w is_ready k) (is_in k out) (times_in k list) (times_in k (pids_of after)) (b.others k apart)
             (λ now. key_once k after.processes sound.handles.processes (ready_key after k now)) (b.stay k))
       ]
 
@@ -172,7 +172,7 @@ module _ (w after : World) (p : ℕ) (list out : List ℕ) (b : Before w after p
 
   pub queued_room : IsSound after → ((q : ℕ) → get w.processes q ≡ None → is_process after is_ready q ≡ false)
       → ((q : ℕ) → get w.processes q ≡ None → is_in q out ≡ false)
-      → ((q : ℕ) → times q out ≤ 1) → length (queued_after w p after list) + length out ≤ length w.processes
+      → ((q : ℕ) → times_in q out ≤ 1) → length (queued_after w p after list) + length out ≤ length w.processes
   queued_room sound fresh known once =
       omega (
         arith,
@@ -181,18 +181,18 @@ module _ (w after : World) (p : ℕ) (list out : List ℕ) (b : Before w after p
       )
     where
       by_mark : (k : ℕ) (now marked : Bool) → is_process after is_ready k ≡ now → is_in k out ≡ marked
-          → times k (queued_after w p after list ++ out) ≤ (if now then 1 else if marked then 1 else 0)
+          → times_in k (queued_after w p after list ++ out) ≤ (if now then 1 else if marked then 1 else 0)
       by_mark k true true is m =
-          let none : times k (queued_after w p after list) ≡ 0 = queued_ready sound k ∙ rw (is, m) refl in
+          let none : times_in k (queued_after w p after list) ≡ 0 = queued_ready sound k ∙ rw (is, m) refl in
           omega (arith, times-append k (queued_after w p after list) out, none, once k)
       by_mark k true false is m =
-          let one : times k (queued_after w p after list) ≡ 1 = queued_ready sound k ∙ rw (is, m) refl in
+          let one : times_in k (queued_after w p after list) ≡ 1 = queued_ready sound k ∙ rw (is, m) refl in
           omega (arith, times-append k (queued_after w p after list) out, one, no_mark k out m)
       by_mark k false true is m =
-          let none : times k (queued_after w p after list) ≡ 0 = queued_ready sound k ∙ rw is refl in
+          let none : times_in k (queued_after w p after list) ≡ 0 = queued_ready sound k ∙ rw is refl in
           omega (arith, times-append k (queued_after w p after list) out, none, once k)
       by_mark k false false is m =
-          let none : times k (queued_after w p after list) ≡ 0 = queued_ready sound k ∙ rw is refl in
+          let none : times_in k (queued_after w p after list) ≡ 0 = queued_ready sound k ∙ rw is refl in
           omega (arith, times-append k (queued_after w p after list) out, none, no_mark k out m)
 
       one_each : (now marked : Bool) → (if now then 1 else if marked then 1 else 0) ≤ 1
@@ -200,7 +200,7 @@ module _ (w after : World) (p : ℕ) (list out : List ℕ) (b : Before w after p
       one_each false true = omega arith
       one_each false false = omega arith
 
-      at_most : (k : ℕ) (o : Option Process) → get w.processes k ≡ o → times k (queued_after w p after list ++ out) ≤ (if is_some o then 1 else 0)
+      at_most : (k : ℕ) (o : Option Process) → get w.processes k ≡ o → times_in k (queued_after w p after list ++ out) ≤ (if is_some o then 1 else 0)
       at_most k None e = by_mark k false false (fresh k e) (known k e)
       at_most k (Some x) e = omega
           (arith, by_mark k (is_process after is_ready k) (is_in k out) refl refl, one_each (is_process after is_ready k) (is_in k out))
@@ -210,7 +210,7 @@ module _ (w after : World) (p : ℕ) (list out : List ℕ) (b : Before w after p
   ready_itself : (k : ℕ) → (k == p) ≡ true → is_process w is_ready k ≡ true
   ready_itself k here = ap (λ (j : ℕ). is_process w is_ready j) (eqb-true k p here) ∙ b.ready
 
-  in_list : (k : ℕ) → (k == p) ≡ false → 0 < times k list → is_process w is_ready k ≡ true
+  in_list : (k : ℕ) → (k == p) ≡ false → 0 < times_in k list → is_process w is_ready k ≡ true
   in_list k apart some = by_test (is_process w is_ready k) (not (is_in k out)) (subst (λ (n : ℕ). 0 < n) (b.others k apart) some)
     where
       by_test : (c d : Bool) → 0 < (if c && d then 1 else 0) → c ≡ true
@@ -220,7 +220,7 @@ module _ (w after : World) (p : ℕ) (list out : List ℕ) (b : Before w after p
   still : (who : Option ℕ) → OthersReady w p after who → still_ready after p list ≡ filter (λ q. not (q == p)) list
   still who o = alike (λ q. is_process after is_ready q && not (q == p)) (λ q. not (q == p)) list by_place
     where
-      by_place : (k : ℕ) → 0 < times k list → (is_process after is_ready k && not (k == p)) ≡ not (k == p)
+      by_place : (k : ℕ) → 0 < times_in k list → (is_process after is_ready k && not (k == p)) ≡ not (k == p)
       by_place k some = elim (cases_Bool (k == p)) as (λ _. (is_process after is_ready k && not (k == p)) ≡ not (k == p)) [
         | inl here ↦ rw here (and-false (is_process after is_ready k))
         | inr apart ↦ rw (apart, o.stay k apart (in_list k apart some)) refl
@@ -264,22 +264,23 @@ module _ (w after : World) (p : ℕ) (list out : List ℕ) (b : Before w after p
   told sound change.Any o = tt
 
 -- the last of a list in which it stands once stays where it is
-pub last_stays : (p : ℕ) (xs : List ℕ) → times p (xs ++ (p ∷ [])) ≡ 1 → xs ++ (p ∷ []) ≡ filter (λ q. not (q == p)) (xs ++ (p ∷ [])) ++ (p ∷ [])
+pub last_stays : (p : ℕ) (xs : List ℕ) → times_in p (xs ++ (p ∷ [])) ≡ 1 → xs ++ (p ∷ []) ≡ filter (λ q. not (q == p)) (xs ++ (p ∷ [])) ++ (p ∷ [])
 last_stays p xs once =
-    let here : times p (p ∷ []) ≡ 1 = rw (eq-eqb p p refl) refl in
-    let none : times p xs ≡ 0 = omega (arith, times-append p xs (p ∷ []), here, once) in
+    let here : times_in p (p ∷ []) ≡ 1 = rw (eq-eqb p p refl) refl in
+    let none : times_in p xs ≡ 0 = omega (arith, times-append p xs (p ∷ []), here, once) in
     sym (ap (λ (ys : List ℕ). ys ++ (p ∷ [])) (filter-append (λ q. not (q == p)) xs (p ∷ []) ∙ (rw (none_filtered p xs none, eq-eqb p p refl) (append-nil xs))))
 
-pub last_stays_at : (p : ℕ) (xs : List ℕ) → 0 < length xs → get_or xs (length xs - 1) p ≡ p → times p xs ≡ 1 → xs ≡ filter (λ q. not (q == p)) xs ++ (p ∷ [])
+pub last_stays_at : (p : ℕ) (xs : List ℕ) → 0 < length xs → get_or xs (length xs - 1) p ≡ p → times_in p xs ≡ 1 → xs ≡ filter (λ q. not (q == p)) xs ++ (p ∷ [])
 last_stays_at p xs some is once =
     let ends : xs ≡ take (length xs - 1) xs ++ (p ∷ []) = sym (take_all (length xs - 1 + 1) xs (omega (arith, some)))
     ∙ (take_more xs (length xs - 1) p (omega (arith, some)) ∙ ap (λ (x : ℕ). take (length xs - 1) xs ++ (x ∷ [])) is) in
-    subst (λ (ys : List ℕ). ys ≡ filter (λ q. not (q == p)) ys ++ (p ∷ [])) (sym ends) (last_stays p (take (length xs - 1) xs) (ap (times p) (sym ends) ∙ once))
+    subst (λ (ys : List ℕ). ys ≡ filter (λ q. not (q == p)) ys ++ (p ∷ [])) (sym ends)
+    (last_stays p (take (length xs - 1) xs) (ap (times_in p) (sym ends) ∙ once))
 
 -- one place more than are left without p
-pub room_left : (p : ℕ) (xs : List ℕ) → times p xs ≡ 1 → length (filter (λ q. not (q == p)) xs) + 1 ≡ length xs
+pub room_left : (p : ℕ) (xs : List ℕ) → times_in p xs ≡ 1 → length (filter (λ q. not (q == p)) xs) + 1 ≡ length xs
 room_left p xs once =
-    let both : times p xs + length (filter (λ q. not (q == p)) xs) ≡ length xs = length-filter_both (λ q. q == p) (λ q. not (q == p)) (λ q. refl) xs in
+    let both : times_in p xs + length (filter (λ q. not (q == p)) xs) ≡ length xs = length-filter_both (λ q. q == p) (λ q. not (q == p)) (λ q. refl) xs in
     omega (arith, both, once)
 
 -- one element more passes, or doesn't

@@ -1,6 +1,6 @@
 -- Worked examples: what is counted of a burst, and the list with its marks after it was handed in.
 use Rattle.zl_sched.proofs.Common.{Blocked, Created, Done, Ended, None, PacketAt, Process, Ready, State, System, World, [], false, get, is_in, is_process}
-use Rattle.zl_sched.proofs.Common.{is_ready_or_over, others_of, put_back, queued_after, refl, requeued, run_items, times, true, unmarked, ℕ, ◌∷◌, ◌≡◌}
+use Rattle.zl_sched.proofs.Common.{is_ready_or_over, others_of, put_back, queued_after, refl, requeued, run_items, times_in, true, unmarked, ℕ, ◌∷◌, ◌≡◌}
 use Rattle.zl_rights.specs.Common.{STUCK, Cpu}
 use Rattle.zl_code.specs.declared.history.TraceItem.TheVariants as item
 use Rattle.zl_interp.specs.declared.bursts.Stop.{Stop}
@@ -81,7 +81,7 @@ module _ (c : Cpu) where
   who_is_out_has_a_mark : is_in 5 (others_of 2 (5 ∷ 2 ∷ [])) ≡ true
   who_is_out_has_a_mark = refl
 
-  one_mark_each : times 5 (5 ∷ 2 ∷ []) ≡ 1
+  one_mark_each : times_in 5 (5 ∷ 2 ∷ []) ≡ 1
   one_mark_each = refl
 
   may_be_out : is_process was is_ready_or_over 6 ≡ true

@@ -1,8 +1,8 @@
 -- A turn of a ready process that isn't out: the list that the code makes after it is that of the definitions, has room, and keeps the system whole.
 use Rattle.zl_sched.proofs.Common.{IsSound, IsTold, IsWhole, List, Machine, Step, System, TakesStep, Tells, TraceItem, Woke, [], arith, change_of, false, is_in}
-use Rattle.zl_sched.proofs.Common.{length, pid_of, queued_after, requeued, run_sound, step_sound, subst, sym, times, ℕ, ◌++◌, ◌+◌, ◌<◌, ◌∙◌, ◌∷◌, ◌≡◌, ◌≤◌}
+use Rattle.zl_sched.proofs.Common.{length, pid_of, queued_after, requeued, run_sound, step_sound, subst, sym, times_in, ℕ, ◌++◌, ◌+◌, ◌<◌, ◌∙◌, ◌∷◌, ◌≡◌, ◌≤◌}
 use Rattle.zl_calls.specs.Own.{StepsOwn}
-use Rattle.zl_calls.specs.World.{own_of}
+use Rattle.zl_calls.specs.World.{own_here}
 use Rattle.zl_sched.proofs.ReadyChange.{IsChanged, changed}
 use Rattle.zl_sched.proofs.Fresh.{made_not_ready}
 use Rattle.zl_sched.proofs.Legal.{legal_more}
@@ -28,7 +28,7 @@ module _ (s : System) (whole : IsWhole s) (pid : ℕ) (unmarked : is_in pid s.ou
   so : Before s.machine.world m2.world pid s.ready s.out
   so = before s.machine.world m2.world pid s.ready s.out s.out whole.listed taken.ready (all_left pid s.out unmarked) others
 
-  pub once : times pid s.ready ≡ 1
+  pub once : times_in pid s.ready ≡ 1
   once = omega (arith, whole.listed.once pid taken.ready, no_mark pid s.out unmarked)
 
   pub queue_room : length (queued_after s.machine.world pid m2.world s.ready) + length s.out ≤ length s.machine.world.processes
@@ -48,7 +48,7 @@ module _ (s : System) (whole : IsWhole s) (pid : ℕ) (unmarked : is_in pid s.ou
       (subst (λ (k : ℕ). IsChanged s.machine.world k m2.world (change_of x who)) taken.pid_is
       (changed s.machine.programs s.machine.world (pid_of x) x m2.world sound taken.steps.step who tells))
 
-  pub still_whole : StepsOwn s.machine.programs (own_of s.machine) pid x (own_of m2) → (items2 : _) (ready2 : List ℕ) → items2 ≡ s.items ++ (x ∷ [])
+  pub still_whole : StepsOwn s.machine.programs (own_here s.machine) pid x (own_here m2) → (items2 : _) (ready2 : List ℕ) → items2 ≡ s.items ++ (x ∷ [])
       → length s.items < s.limit
       → ready2 ≡ queued_after s.machine.world pid m2.world s.ready → IsWhole (record s { machine = m2; items = items2; ready = ready2 })
   still_whole own items2 ready2 added room is = record {

@@ -1,8 +1,8 @@
 -- What a turn does that has a step, and what one is answered for which the trace has no room.
-use Rattle.zl_sched.proofs.Common.{Bool, List, Machine, Runs, System, TakesStep, TraceItem, Turns, [], cases_Bool, false, if◌then◌else◌}
-use Rattle.zl_sched.proofs.Common.{inl, inr, is_in, length, may_step, queued_after, refl, ℕ, ◌++◌, ◌<◌, ◌∷◌, ◌≡◌, ◌≤◌}
+use Rattle.zl_sched.proofs.Common.{Bool, List, Machine, RunsHere, System, TakesStep, TraceItem, Turns, [], cases_Bool, false, if◌then◌else◌, inl, inr, is_in}
+use Rattle.zl_sched.proofs.Common.{length, may_step, queued_after, refl, ℕ, ◌++◌, ◌<◌, ◌∷◌, ◌≡◌, ◌≤◌}
 use Rattle.zl_calls.specs.Own.{StepsOwn}
-use Rattle.zl_calls.specs.World.{own_of}
+use Rattle.zl_calls.specs.World.{own_here}
 use Rattle.zl_sched.specs.declared.system.Stepped.{Stepped}
 use Rattle.zl_sched.specs.declared.system.Stepped.TheVariants as stepped
 
@@ -18,9 +18,9 @@ module _ (s : System) (pid : ℕ) where
   ]
 
   pub step_told : is_in pid s.out ≡ false → (m2 : Machine) (items2 : List TraceItem) (ready2 : List ℕ) (x : TraceItem) → TakesStep s.machine pid m2 x
-      → StepsOwn s.machine.programs (own_of s.machine) pid x (own_of m2)
+      → StepsOwn s.machine.programs (own_here s.machine) pid x (own_here m2)
       → items2 ≡ s.items ++ (x ∷ []) → length s.items < s.limit
-      → ready2 ≡ queued_after s.machine.world pid m2.world s.ready → Runs s pid (record s { machine = m2; items = items2; ready = ready2 })
+      → ready2 ≡ queued_after s.machine.world pid m2.world s.ready → RunsHere s pid (record s { machine = m2; items = items2; ready = ready2 })
   step_told hand m2 items2 ready2 x taken own added room queue = record {
     item = x;
     adds = record { programs = taken.steps.programs; items = added; statements = refl; limit = refl; out = refl };

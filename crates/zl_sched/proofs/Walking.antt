@@ -1,10 +1,10 @@
 -- Turns, one after another: what was walked, and what follows it.
-use Rattle.zl_sched.proofs.Common.{Adds, End, EndsBy, Follows, IsTrue, Library, List, Runs, StopsBefore, System, TraceItem, Walks, World, [], and_parts}
-use Rattle.zl_sched.proofs.Common.{ap, append-nil, append_assoc, arith, drop, ends, false, flat_map-append, get_or, goes, is_process, is_ready, is_ready_in}
+use Rattle.zl_sched.proofs.Common.{Adds, End, EndsBy, Follows, IsTrue, Library, List, RunsHere, StopsBefore, System, TraceItem, Walks, World, [], and_parts, ap}
+use Rattle.zl_sched.proofs.Common.{append-nil, append_assoc, arith, drop, false, flat_map-append, get_or, goes, halts, is_process, is_ready, is_ready_in}
 use Rattle.zl_sched.proofs.Common.{length, length-append, may_step, refl, replicate, replicate-append-replicate, replicate_more, room_of, skips, subst, suc}
 use Rattle.zl_sched.proofs.Common.{sym, take, take-append-drop, take_more, turns_of, zero, ℕ, ◌++◌, ◌+◌, ◌-◌, ◌<◌, ◌∙◌, ◌∷◌, ◌≡◌, ◌≤◌}
 use Rattle.zl_code.specs.OwnHistory.{OwnHistory}
-use Rattle.zl_calls.specs.World.{own_of}
+use Rattle.zl_calls.specs.World.{own_here}
 use Rattle.zl_sched.specs.declared.system.End.TheVariants as end
 use Rattle.zl_sched.proofs.Legal.{own_ran, own_then}
 use Rattle.std.proofs.Math.Bool.{and-true}
@@ -13,14 +13,14 @@ use Rattle.std.proofs.Math.Bool.{and-true}
 
 pub follows_then : (lib : Library) (w mid w2 : World) (ts us : List ℕ) (xs ys : List TraceItem) → Follows lib w ts xs mid → Follows lib mid us ys w2
     → Follows lib w (ts ++ us) (xs ++ ys) w2
-follows_then lib _ _ w2 _ us _ ys (ends w) rest = rest
+follows_then lib _ _ w2 _ us _ ys (halts w) rest = rest
 follows_then lib _ _ w2 _ us _ ys (skips w mid p turns items not_ready first) rest = skips w w2 p (turns ++ us) (items ++ ys) not_ready
     (follows_then lib w mid w2 turns us items ys first rest)
 follows_then lib _ _ w2 _ us _ ys (goes w next mid p x turns items ready step first) rest = goes w next w2 p x (turns ++ us) (items ++ ys) ready step
     (follows_then lib next mid w2 turns us items ys first rest)
 
 follows_skipping : (lib : Library) (w : World) (p n : ℕ) → is_process w is_ready p ≡ false → Follows lib w (replicate n p) [] w
-follows_skipping lib w p zero not_ready = ends w
+follows_skipping lib w p zero not_ready = halts w
 follows_skipping lib w p (suc n) not_ready = skips w w p (replicate n p) [] not_ready (follows_skipping lib w p n not_ready)
 
 -- ---- walks
@@ -42,16 +42,16 @@ adds_both s mid s2 xs ys first second = record {
 }
 
 pub walks_nowhere : (s : System) → Walks s [] end.Schedule s
-walks_nowhere s = record { more = []; adds = adds_nothing s; own = refl; room = omega arith; ends = ends s.machine.world }
+walks_nowhere s = record { more = []; adds = adds_nothing s; own = refl; room = omega arith; ends = halts s.machine.world }
 
-pub ran_walks : (s : System) (p : ℕ) (s2 : System) → Runs s p s2 → Walks s (p ∷ []) end.Schedule s2
+pub ran_walks : (s : System) (p : ℕ) (s2 : System) → RunsHere s p s2 → Walks s (p ∷ []) end.Schedule s2
 ran_walks s p s2 runs = record {
   more = runs.item ∷ [];
   adds = runs.adds;
-  own = (own_of s2.machine, own_ran s p s2 runs, refl);
+  own = (own_here s2.machine, own_ran s p s2 runs, refl);
   room = omega (arith, runs.room);
   ends = goes s.machine.world s2.machine.world s2.machine.world p runs.item [] [] (and_parts (is_ready_in s.machine p) _ runs.ready).0 runs.step
-      (ends s2.machine.world);
+      (halts s2.machine.world);
 }
 
 pub skipped_walks : (s : System) (p n : ℕ) → is_ready_in s.machine p ≡ false → Walks s (replicate n p) end.Schedule s
@@ -64,7 +64,7 @@ skipped_walks s p n not_ready = record {
 }
 
 stops_here : (s : System) (p : ℕ) (us : List ℕ) → IsTrue (is_ready_in s.machine p) → StopsBefore s.machine.programs s.machine.world (p ∷ us) [] s.machine.world
-stops_here s p us ready = record { taken = []; next = p; left = us; are_all = refl; follows = ends s.machine.world; is_ready = ready }
+stops_here s p us ready = record { taken = []; next = p; left = us; are_all = refl; follows = halts s.machine.world; is_ready = ready }
 
 pub limited_walks : (s : System) (p : ℕ) (us : List ℕ) → IsTrue (is_ready_in s.machine p) → s.limit ≤ length s.items → Walks s (p ∷ us) end.Limit s
 limited_walks s p us ready full =
@@ -104,8 +104,8 @@ module _ (s mid s2 : System) (ts us : List ℕ) (first : Walks s ts end.Schedule
   walks_then e second = record {
     more = first.more ++ second.more;
     adds = adds_both s mid s2 first.more second.more first.adds second.adds;
-    own = own_then s.machine.programs (own_of s.machine) (own_of mid.machine) (own_of s2.machine) first.more second.more first.own
-        (subst (λ (lib : Library). OwnHistory lib (own_of mid.machine) second.more (own_of s2.machine)) first.adds.programs second.own);
+    own = own_then s.machine.programs (own_here s.machine) (own_here mid.machine) (own_here s2.machine) first.more second.more first.own
+        (subst (λ (lib : Library). OwnHistory lib (own_here mid.machine) second.more (own_here s2.machine)) first.adds.programs second.own);
     room = omega (arith, first.room, second.room, counts, first.adds.limit, length-append first.more second.more);
     ends = ends_then e second.more s2.machine.world second.ends;
   }
@@ -113,7 +113,7 @@ module _ (s mid s2 : System) (ts us : List ℕ) (first : Walks s ts end.Schedule
 -- ---- turns of one process
 
 module _ (s mid s2 : System) (p n count : ℕ) (first : Walks s (replicate n p) end.Schedule mid) where
-  pub once_more : Runs mid p s2 → Walks s (replicate (n + 1) p) end.Schedule s2
+  pub once_more : RunsHere mid p s2 → Walks s (replicate (n + 1) p) end.Schedule s2
   once_more runs = subst (λ (turns : List ℕ). Walks s turns end.Schedule s2) (replicate_more n p)
       (walks_then s mid s2 (replicate n p) (p ∷ []) first end.Schedule (ran_walks mid p s2 runs))
 

@@ -13,7 +13,7 @@ turns_of schedule = flat_map (λ pair. replicate pair.1 pair.0) schedule
 -- the turns, taken one after another in w, give the items and lead to the last world
 pub data Follows (lib : Library) : World → List ℕ → List TraceItem → World → Type 0 where
   -- no turn is left
-  ends : (w : World) → Follows lib w [] [] w
+  halts : (w : World) → Follows lib w [] [] w
   -- a turn of a process that isn't ready gives nothing
   skips : (w w2 : World) (p : ℕ) (turns : List ℕ) (items : List TraceItem)
       → is_process w is_ready p ≡ false → Follows lib w turns items w2 → Follows lib w (p ∷ turns) items w2

@@ -8,7 +8,7 @@ use Rattle.zl_interp.specs.Bursts.{Turn, Done}
 use Rattle.zl_interp.specs.declared.bursts.Stop.{Stop}
 use Rattle.zl_interp.specs.declared.bursts.Stop.TheVariants as stop
 use Rattle.zl_calls.specs.Own.{StepsOwn}
-use Rattle.zl_calls.specs.World.{Machine, is_ready_in, own_of}
+use Rattle.zl_calls.specs.World.{Machine, is_ready_in, own_here}
 use Rattle.zl_calls.specs.Steps.{TakesStep}
 use Rattle.zl_calls.specs.Turns.{IsTurn, Fits, advanced, steps_done}
 use Rattle.zl_calls.specs.Started.{Tells}
@@ -58,7 +58,7 @@ run_items p n = if n == 0 then [] else (item.Run p n ∷ [])
 -- what comes behind them: nothing, or one step of the process, which is the lab's own, with its item
 abbrev pub Ends : Bool → Machine → ℕ → List TraceItem → Machine → Type 0
 Ends true m p last m2 = (last ≡ []) × (m2 ≡ m)
-Ends false m p last m2 = (x : TraceItem) × (last ≡ x ∷ []) × TakesStep m p m2 x × StepsOwn m.programs (own_of m) p x (own_of m2)
+Ends false m p last m2 = (x : TraceItem) × (last ≡ x ∷ []) × TakesStep m p m2 x × StepsOwn m.programs (own_here m) p x (own_here m2)
 
 -- ---- handed in
 

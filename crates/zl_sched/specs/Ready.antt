@@ -12,8 +12,8 @@ abbrev pub ready_by_koid : World → List ℕ
 ready_by_koid w = filter (λ q. is_process w is_ready q) (pids_of w)
 
 -- how often the process stands in the list
-abbrev pub times : ℕ → List ℕ → ℕ
-times p list = length (filter (λ q. q == p) list)
+abbrev pub times_in : ℕ → List ℕ → ℕ
+times_in p list = length (filter (λ q. q == p) list)
 
 -- the process stands in the list
 abbrev pub is_in : ℕ → List ℕ → Bool
@@ -32,11 +32,11 @@ is_ready_or_over _ = false
 -- the ready list and the marks of a world
 pub record Listed (w : World) (ready out : List ℕ) : Type 0 where
   -- together they hold each ready process once
-  pub once : (p : ℕ) → is_process w is_ready p ≡ true → times p ready + times p out ≡ 1
+  pub once : (p : ℕ) → is_process w is_ready p ≡ true → times_in p ready + times_in p out ≡ 1
   -- nothing else is in the list
-  pub alone : (p : ℕ) → is_process w is_ready p ≡ false → times p ready ≡ 0
+  pub alone : (p : ℕ) → is_process w is_ready p ≡ false → times_in p ready ≡ 0
   -- no process has two marks
-  pub marks : (p : ℕ) → times p out ≤ 1
+  pub marks : (p : ℕ) → times_in p out ≤ 1
   -- what is marked and hasn't ended is ready
   pub marked : (p : ℕ) → is_in p out ≡ true → IsTrue (is_process w is_ready_or_over p)
 

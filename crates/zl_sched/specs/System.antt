@@ -1,6 +1,6 @@
 -- A machine with its trace, what it was booted from, its ready list and its marks, and what turns do to them.
 use Rattle.std.specs.Prelude.{ℕ, ◌≡◌, ◌<◌, ◌≤◌, ◌-◌, Bool, false, ◌&&◌, not, List, [], ◌∷◌, ◌++◌, length, IsTrue}
-use Rattle.zl_code.specs.Common.{World as WorldValue, is_process, is_ready, Library, Step, IsLegalHistory}
+use Rattle.zl_code.specs.Common.{World, is_process, is_ready, Library, Step, IsLegalHistory}
 use Rattle.zl_code.specs.Boot.{IsBooted}
 use Rattle.zl_code.specs.Headline.{IsSizedBoot, CoveredGoWell}
 use Rattle.zl_code.specs.declared.boot.Statement.{Statement}
@@ -8,7 +8,7 @@ use Rattle.zl_code.specs.declared.history.TraceItem.{TraceItem}
 use Rattle.zl_code.specs.OwnBoot.{own_boot}
 use Rattle.zl_code.specs.OwnHistory.{OwnHistory}
 use Rattle.zl_calls.specs.Own.{StepsOwn}
-use Rattle.zl_calls.specs.World.{Machine, is_ready_in, own_of}
+use Rattle.zl_calls.specs.World.{Machine, is_ready_in, own_here}
 use Rattle.zl_sched.specs.declared.system.Stepped.{Stepped}
 use Rattle.zl_sched.specs.declared.system.Stepped.TheVariants as stepped
 use Rattle.zl_sched.specs.declared.system.End.{End}
@@ -38,13 +38,13 @@ pub record IsIdle (s : System) : Type 0 where
 
 -- the items are a legal history from a boot world of the statements to the world, and not too many
 pub record IsLegal (s : System) : Type 0 where
-  pub boot : WorldValue
+  pub boot : World
   pub boots : IsBooted s.machine.programs s.statements s.limit boot
   pub sized : IsSizedBoot s.machine.programs s.statements boot
   pub history : IsLegalHistory s.machine.programs boot s.items s.machine.world
   -- it is the history that the lab itself has of them
   pub begins : boot ≡ (own_boot s.machine.programs s.statements).world
-  pub own : OwnHistory s.machine.programs (own_boot s.machine.programs s.statements) s.items (own_of s.machine)
+  pub own : OwnHistory s.machine.programs (own_boot s.machine.programs s.statements) s.items (own_here s.machine)
   pub room : length s.items ≤ s.limit
 
 -- the system stands before its first step, booted from these programs, these statements and this limit
@@ -52,7 +52,7 @@ pub record HasBooted (lib : Library) (statements : List Statement) (limit : ℕ)
   pub programs : s.machine.programs ≡ lib
   pub boots : IsBooted lib statements limit s.machine.world
   pub sized : IsSizedBoot lib statements s.machine.world
-  pub own : own_of s.machine ≡ own_boot lib statements
+  pub own : own_here s.machine ≡ own_boot lib statements
   pub items : s.items ≡ []
   pub statements_are : s.statements ≡ statements
   pub limit_is : s.limit ≡ limit
@@ -82,18 +82,18 @@ pub record Adds (s : System) (more : List TraceItem) (s2 : System) : Type 0 wher
 -- ---- one turn
 
 -- a turn of a process that may step, with room in the trace, is its one step
-pub record Runs (s : System) (pid : ℕ) (s2 : System) : Type 0 where
+pub record RunsHere (s : System) (pid : ℕ) (s2 : System) : Type 0 where
   pub item : TraceItem
   pub adds : Adds s (item ∷ []) s2
   pub step : Step s.machine.programs s.machine.world pid item s2.machine.world
-  pub own : StepsOwn s.machine.programs (own_of s.machine) pid item (own_of s2.machine)
+  pub own : StepsOwn s.machine.programs (own_here s.machine) pid item (own_here s2.machine)
   pub ready : IsTrue (may_step s pid)
   pub room : length s.items < s.limit
   pub queue : s2.ready ≡ queued_after s.machine.world pid s2.machine.world s.ready
 
 -- what a turn does, by its answer: all but a step changes nothing
 abbrev pub Turns : System → ℕ → Stepped → System → Type 0
-Turns s pid stepped.Ran s2 = Runs s pid s2
+Turns s pid stepped.Ran s2 = RunsHere s pid s2
 Turns s pid stepped.NotReady s2 = (s2 ≡ s) × (may_step s pid ≡ false)
 Turns s pid stepped.Limit s2 = (s2 ≡ s) × IsTrue (may_step s pid) × (s.limit ≤ length s.items)
 Turns s pid stepped.NoMemory s2 = (s2 ≡ s) × IsTrue (may_step s pid) × (length s.items < s.limit)
@@ -108,6 +108,6 @@ room_of s = s.limit - length s.items
 pub record Walks (s : System) (turns : List ℕ) (e : End) (s2 : System) : Type 0 where
   pub more : List TraceItem
   pub adds : Adds s more s2
-  pub own : OwnHistory s.machine.programs (own_of s.machine) more (own_of s2.machine)
+  pub own : OwnHistory s.machine.programs (own_here s.machine) more (own_here s2.machine)
   pub room : length more ≤ room_of s
   pub ends : EndsBy s.machine.programs s.machine.world turns (room_of s) more s2.machine.world e

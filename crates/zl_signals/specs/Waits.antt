@@ -18,20 +18,20 @@ wait_at object x =
 -- ---- which wait
 
 -- a watched signal is active
-abbrev pub holds : ℕ → Watch → Bool
-holds active x = meets active x.mask.0
+abbrev pub watch_holds : ℕ → Watch → Bool
+watch_holds active x = meets active x.mask.0
 
 -- the wait was made by the process with its handle of this value
-abbrev pub is_by_handle : ℕ → ℕ → Watch → Bool
-is_by_handle pid value x = (x.pid == pid) && (x.value == value)
+abbrev pub is_by_handle_here : ℕ → ℕ → Watch → Bool
+is_by_handle_here pid value x = (x.pid == pid) && (x.value == value)
 
 -- the wait gives its packet to the port
 abbrev pub is_at_port : ℕ → Watch → Bool
 is_at_port port x = x.port == port
 
 -- the wait was made by that handle, and gives a packet with this key to the port
-abbrev pub is_keyed : ℕ → ℕ → ℕ → ℕ → Watch → Bool
-is_keyed pid value port key x = is_by_handle pid value x && (is_at_port port x && (x.key == key))
+abbrev pub is_keyed_here : ℕ → ℕ → ℕ → ℕ → Watch → Bool
+is_keyed_here pid value port key x = is_by_handle_here pid value x && (is_at_port port x && (x.key == key))
 
 -- ---- changes
 
@@ -61,4 +61,4 @@ NoneGives port waits = IfSome port (λ p. filter (λ x. not (is_at_port p x)) wa
 
 -- the order of the earliest wait that holds
 abbrev pub next_order : SignalState → ℕ → Option ℕ
-next_order s active = option_map (λ (x : Watch). x.order) (find (holds active) s.waits)
+next_order s active = option_map (λ (x : Watch). x.order) (find (watch_holds active) s.waits)

@@ -1,8 +1,8 @@
 ghost use Rattle.std.specs.Prelude.{◌≡◌, [], OnOk, OnErr, IfErr, IfNone, drop, filter, not, slice_get};
 ghost use Rattle.std.specs.List.{find, position};
 ghost use Rattle.zl_rights.specs.Signals.{is_empty};
-ghost use Rattle.zl_signals.specs.Asked.{takes};
-ghost use Rattle.zl_signals.specs.Waits.{holds, is_at_port, is_by_handle, is_keyed, next_order, with_changed, with_wait, without_first, without_port, without_wait};
+ghost use Rattle.zl_signals.specs.Asked.{takes_out};
+ghost use Rattle.zl_signals.specs.Waits.{is_at_port, is_by_handle_here, is_keyed_here, next_order, watch_holds, with_changed, with_wait, without_first, without_port, without_wait};
 
 use crate::watch::{Asked, Watch};
 use bitflags::Flags;
@@ -25,7 +25,7 @@ pub struct SignalState {
 }
 
 impl Model for SignalState {
-    ghost use Rattle.zl_signals.specs.Asked.{takes};
+    ghost use Rattle.zl_signals.specs.Asked.{takes_out};
     ghost use Rattle.zl_signals.specs.Waits.{NoneGives, SignalState as SignalStateValue};
 
     ghost Value = { SignalStateValue };
@@ -89,8 +89,8 @@ impl SignalState {
     /// Source: the page "zx_object_wait_async" of the Fuchsia documentation: a wait ends with its
     /// handle.
     pub fn unwatch_handle(&mut self, pid: Pid, value: HValue) -> Option<Watch>
-        ensures earliest { result ≡ find (is_by_handle pid value) self.old.waits }
-        ensures rest { self.new ≡ without_wait self.old (is_by_handle pid value) }
+        ensures earliest { result ≡ find (is_by_handle_here pid value) self.old.waits }
+        ensures rest { self.new ≡ without_wait self.old (is_by_handle_here pid value) }
         ensures unchanged { IfNone result (self.new ≡ self.old) }
     {
         self.ended = None;
@@ -139,8 +139,8 @@ impl SignalState {
     ///
     /// Source: the page "zx_port_cancel" of the Fuchsia documentation.
     pub fn unwatch_key(&mut self, pid: Pid, value: HValue, port: Koid, key: u64) -> Option<Watch>
-        ensures earliest { result ≡ find (is_keyed pid value port key) self.old.waits }
-        ensures rest { self.new ≡ without_wait self.old (is_keyed pid value port key) }
+        ensures earliest { result ≡ find (is_keyed_here pid value port key) self.old.waits }
+        ensures rest { self.new ≡ without_wait self.old (is_keyed_here pid value port key) }
         ensures unchanged { IfNone result (self.new ≡ self.old) }
     {
         self.ended = None;
@@ -164,8 +164,8 @@ impl SignalState {
     /// Source: the page "zx_object_wait_async" of the Fuchsia documentation; the order is own
     /// profile.
     pub fn fire(&mut self, active: Signals) -> Option<Watch>
-        ensures earliest { result ≡ find (holds active.0) self.old.waits }
-        ensures rest { self.new ≡ without_wait self.old (holds active.0) }
+        ensures earliest { result ≡ find (watch_holds active.0) self.old.waits }
+        ensures rest { self.new ≡ without_wait self.old (watch_holds active.0) }
         ensures unchanged { IfNone result (self.new ≡ self.old) }
     {
         self.ended = None;
@@ -175,8 +175,8 @@ impl SignalState {
 
 /// Takes out the earliest wait that is asked for, or nothing where there is none.
 fn take_first(waits: &mut VecDeque<Watch>, asked: Asked) -> Option<Watch>
-    ensures earliest { result ≡ find (takes asked) waits.old.items }
-    ensures rest { waits.new.items ≡ without_first (takes asked) waits.old.items }
+    ensures earliest { result ≡ find (takes_out asked) waits.old.items }
+    ensures rest { waits.new.items ≡ without_first (takes_out asked) waits.old.items }
     ensures unchanged { IfNone result (waits.new.items ≡ waits.old.items) }
 {
     let place = place_of(waits, &asked)?;
@@ -192,7 +192,7 @@ fn keep_others(waits: &mut VecDeque<Watch>, port: Koid)
 
 /// Where the earliest wait stands that is asked for.
 fn place_of(waits: &VecDeque<Watch>, asked: &Asked) -> Option<usize>
-    ensures { result ≡ position (takes asked.now) waits.now.items }
+    ensures { result ≡ position (takes_out asked.now) waits.now.items }
 {
     waits.iter().position(|wait| asked.takes(wait))
 }

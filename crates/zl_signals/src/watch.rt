@@ -1,5 +1,5 @@
 ghost use Rattle.std.specs.Prelude.{◌≡◌};
-ghost use Rattle.zl_signals.specs.Asked.{takes};
+ghost use Rattle.zl_signals.specs.Asked.{takes_out};
 
 use bitflags::Flags;
 use zl_rights::{HValue, Koid, Pid, Signals};
@@ -38,7 +38,7 @@ pub(crate) enum Asked {
 impl Asked {
     /// Whether this wait is one of them.
     pub(crate) fn takes(&self, wait: &Watch) -> bool
-        ensures { result ≡ takes self.now wait.now }
+        ensures { result ≡ takes_out self.now wait.now }
     {
         match self {
             Asked::Holding(active) => active.intersects(wait.mask),

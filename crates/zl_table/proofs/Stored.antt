@@ -15,7 +15,7 @@ use Rattle.zl_rights.proofs.MapEdits.{sorted_put, sorted_without, get-without, i
 use Rattle.zl_rights.proofs.Values.{comes_again, free_inserted, free_new, free_removed, free_updated, live_made, made_given, made_taken, next_small}
 use Rattle.zl_table.specs.Table.{MOST_VALUE, IsFull, IsTable, Inserts, Removes}
 use Rattle.zl_rights.specs.Values.{CAPACITY, Free, IsFree, given_back, offered, taken}
-use Rattle.zl_table.specs.Stored.{IsStored, free_in, handles_in, table_in}
+use Rattle.zl_table.specs.Stored.{IsStored, free_stored, handles_stored, table_in}
 
 module _ {X : Type 0} where
   -- ---- the entries of slots, by keys from the first one on
@@ -105,12 +105,12 @@ module _ {X : Type 0} where
 -- ---- a table in a slab
 
 -- what is stored, by what is true of its values
-stored_by : (s : Slab Entry) (values : List ℕ) (made room : ℕ) (last : Option ℕ) → slab_len s ≤ CAPACITY → IsFree (handles_in s) (free_in values made)
-    → made ≤ room → IfSome last (λ v. v ≡ offered (free_in values made)) → IsStored s values made room last
+stored_by : (s : Slab Entry) (values : List ℕ) (made room : ℕ) (last : Option ℕ) → slab_len s ≤ CAPACITY → IsFree (handles_stored s) (free_stored values made)
+    → made ≤ room → IfSome last (λ v. v ≡ offered (free_stored values made)) → IsStored s values made room last
 stored_by s values made room last few free roomy again = record {
   few = few;
   keys = λ key there.
-      let live = live_made (handles_in s) (free_in values made) free (key + 1) (ap is_some (get_key s key) ∙ there) in
+      let live = live_made (handles_stored s) (free_stored values made) free (key + 1) (ap is_some (get_key s key) ∙ there) in
       omega (arith, live.1, free.few);
   free = free;
   roomy = roomy;
@@ -119,9 +119,9 @@ stored_by s values made room last few free roomy again = record {
 
 module _ (s : Slab Entry) (values : List ℕ) (made room : ℕ) (last : Option ℕ) (stored : IsStored s values made room last) where
   -- what stands at a value
-  pub at_key : (v key : ℕ) → (0 < v → key + 1 ≡ v) → (v ≡ 0 → MOST_VALUE ≤ key) → get (handles_in s) v ≡ slot_at s key
+  pub at_key : (v key : ℕ) → (0 < v → key + 1 ≡ v) → (v ≡ 0 → MOST_VALUE ≤ key) → get (handles_stored s) v ≡ slot_at s key
   at_key v key above zero_above = elim (cases_lt 0 v) [
-    | inl some ↦ ap (get (handles_in s)) (sym (above some)) ∙ get_key s key
+    | inl some ↦ ap (get (handles_stored s)) (sym (above some)) ∙ get_key s key
     | inr low ↦
         let is : v ≡ 0 = omega (arith, low) in
         rw is (none_at_zero s ∙ sym (dead (slot_at s key) (λ there. absurd (omega (arith, stored.keys key there, zero_above is)))))
@@ -137,7 +137,7 @@ module _ (s : Slab Entry) (values : List ℕ) (made room : ℕ) (last : Option �
       let within = stored.keys key (rw there refl) in
       elim (cases_lt 0 v) [ inl some ↦ (above some, within) | inr low ↦ absurd (omega (arith, zero_above (omega (arith, low)), within)) ]
 
-  pub is_table : IsTable (handles_in s)
+  pub is_table : IsTable (handles_stored s)
   is_table = record {
     sorted = sorted_handles s;
     few = omega (arith, length_handles s, stored.few);
@@ -148,7 +148,7 @@ module _ (s : Slab Entry) (values : List ℕ) (made room : ℕ) (last : Option �
   }
 
   -- a key at which an entry stands
-  pub live_key : (key : ℕ) → IsSome (slot_at s key) → IsTrue (has_key (handles_in s) (key + 1)) × (key < MOST_VALUE)
+  pub live_key : (key : ℕ) → IsSome (slot_at s key) → IsTrue (has_key (handles_stored s) (key + 1)) × (key < MOST_VALUE)
   live_key key there = (ap is_some (get_key s key) ∙ there, stored.keys key there)
 
   pub full_by : (len : ℕ) → len ≡ slab_len s → len ≡ 1024 → IsFull (table_in s values made last)
@@ -158,20 +158,20 @@ module _ (s : Slab Entry) (values : List ℕ) (made room : ℕ) (last : Option �
   not_full len counted few all = few (counted ∙ (sym (length_handles s) ∙ all))
 
   -- the value that comes next
-  pub next_fits : (len : ℕ) → len ≡ slab_len s → (len ≡ 1024 → ⊥) → (0 < offered (free_in values made)) × (offered (free_in values made) ≤ CAPACITY)
-  next_fits len counted few = next_small (handles_in s) (free_in values made) stored.free (omega (arith, counted, few, stored.few, length_handles s))
+  pub next_fits : (len : ℕ) → len ≡ slab_len s → (len ≡ 1024 → ⊥) → (0 < offered (free_stored values made)) × (offered (free_stored values made) ≤ CAPACITY)
+  next_fits len counted few = next_small (handles_stored s) (free_stored values made) stored.free (omega (arith, counted, few, stored.few, length_handles s))
 
   module _ (new : Slab Entry) (new_values : List ℕ) (new_made new_room : ℕ) where
-    module _ (e : Entry) (value key len : ℕ) (is : value ≡ offered (free_in values made)) (at : key + 1 ≡ value) (vacant : slot_at s key ≡ None)
-        (updates : Updates s new key (Some e)) (left : free_in new_values new_made ≡ taken (free_in values made)) (counted : len ≡ slab_len s)
+    module _ (e : Entry) (value key len : ℕ) (is : value ≡ offered (free_stored values made)) (at : key + 1 ≡ value) (vacant : slot_at s key ≡ None)
+        (updates : Updates s new key (Some e)) (left : free_stored new_values new_made ≡ taken (free_stored values made)) (counted : len ≡ slab_len s)
         (few : len ≡ 1024 → ⊥) where
-      fewer : length (handles_in s) < CAPACITY
+      fewer : length (handles_stored s) < CAPACITY
       fewer = omega (arith, counted, few, stored.few, length_handles s)
 
-      small : (0 < offered (free_in values made)) × (offered (free_in values made) ≤ CAPACITY)
-      small = next_small (handles_in s) (free_in values made) stored.free fewer
+      small : (0 < offered (free_stored values made)) × (offered (free_stored values made) ≤ CAPACITY)
+      small = next_small (handles_stored s) (free_stored values made) stored.free fewer
 
-      with_it : handles_in new ≡ put (handles_in s) value e
+      with_it : handles_stored new ≡ put (handles_stored s) value e
       with_it = rw (← at) (put_slot s new key e updates)
 
       pub inserts : Inserts (table_in s values made last) e value (table_in new new_values new_made None)
@@ -187,22 +187,22 @@ module _ (s : Slab Entry) (values : List ℕ) (made room : ℕ) (last : Option �
         last = refl;
       }
         where
-          again_at : (l : Option ℕ) → IfSome l (λ v. v ≡ offered (free_in values made)) → IfSome l (λ v. value ≡ v)
+          again_at : (l : Option ℕ) → IfSome l (λ v. v ≡ offered (free_stored values made)) → IfSome l (λ v. value ≡ v)
           again_at None a = tt
           again_at (Some v) a = is ∙ sym a
 
       pub inserted : (new_made ≤ new_room) → slab_len new ≡ slab_len s + 1 → IsStored new new_values new_made new_room None
       inserted roomy longer = stored_by new new_values new_made new_room None
           (omega (arith, counted, few, stored.few, longer))
-          (rw (with_it, is, left) (free_inserted (handles_in s) (free_in values made) e stored.free fewer))
+          (rw (with_it, is, left) (free_inserted (handles_stored s) (free_stored values made) e stored.free fewer))
           roomy tt
 
     module _ (v key : ℕ) (e : Entry) (above : 0 < v → key + 1 ≡ v) (zero_above : v ≡ 0 → MOST_VALUE ≤ key) (there : slot_at s key ≡ Some e)
-        (updates : Updates s new key None) (left : free_in new_values new_made ≡ given_back v (free_in values made)) where
+        (updates : Updates s new key None) (left : free_stored new_values new_made ≡ given_back v (free_stored values made)) where
       is : key + 1 ≡ v
       is = (key_above v key e above zero_above there).0
 
-      without_it : handles_in new ≡ without (handles_in s) v
+      without_it : handles_stored new ≡ without (handles_stored s) v
       without_it = rw (← is) (clear_slot s new key updates)
 
       pub removes : Removes (table_in s values made last) v e (table_in new new_values new_made (Some v))
@@ -211,13 +211,13 @@ module _ (s : Slab Entry) (values : List ℕ) (made room : ℕ) (last : Option �
       pub removed : new_made ≤ new_room → slab_len new + 1 ≡ slab_len s → IsStored new new_values new_made new_room (Some v)
       removed roomy shorter = stored_by new new_values new_made new_room (Some v)
           (omega (arith, stored.few, shorter))
-          (rw (without_it, left) (free_removed (handles_in s) (free_in values made) v stored.free (sorted_handles s)
+          (rw (without_it, left) (free_removed (handles_stored s) (free_stored values made) v stored.free (sorted_handles s)
           (ap is_some (at_key v key above zero_above ∙ there))))
           roomy
-          (sym (ap offered left ∙ comes_again v (free_in values made) (omega (arith, is))))
+          (sym (ap offered left ∙ comes_again v (free_stored values made) (omega (arith, is))))
 
   pub rewrites : (new : Slab Entry) (v key : ℕ) (e : Entry) (f : Entry → Entry) → (0 < v → key + 1 ≡ v) → (v ≡ 0 → MOST_VALUE ≤ key)
-      → slot_at s key ≡ Some e → Updates s new key (Some (f e)) → handles_in new ≡ update (handles_in s) v f
+      → slot_at s key ≡ Some e → Updates s new key (Some (f e)) → handles_stored new ≡ update (handles_stored s) v f
   rewrites new v key e f above zero_above there updates = rw (← (key_above v key e above zero_above there).0) (write_slot s new key e f there updates)
 
   pub rewritten : (new : Slab Entry) (v key : ℕ) (e : Entry) (f : Entry → Entry) → (0 < v → key + 1 ≡ v) → (v ≡ 0 → MOST_VALUE ≤ key)
@@ -229,26 +229,26 @@ module _ (s : Slab Entry) (values : List ℕ) (made room : ℕ) (last : Option �
         length_handles new,
         length_handles s,
         ap length (rewrites new v key e f above zero_above there updates),
-        length-update (handles_in s) v f,
+        length-update (handles_stored s) v f,
       ))
-      (rw (rewrites new v key e f above zero_above there updates) (free_updated (handles_in s) (free_in values made) v f stored.free))
+      (rw (rewrites new v key e f above zero_above there updates) (free_updated (handles_stored s) (free_stored values made) v f stored.free))
       stored.roomy
       tt
 
   -- an entry that is taken out leaves room for its value
   pub room_left : (key : ℕ) (e : Entry) → slot_at s key ≡ Some e → length values < room
   room_left key e there =
-      let live = length-without (handles_in s) (key + 1) (sorted_handles s) (ap is_some (get_key s key ∙ there)) in
+      let live = length-without (handles_stored s) (key + 1) (sorted_handles s) (ap is_some (get_key s key ∙ there)) in
       omega (arith, live, stored.free.counted, stored.roomy, length-reverse values)
 
   -- room for the values that were made, when the next insertion has its value
-  pub room_taken : (new_values : List ℕ) (new_made more : ℕ) → free_in new_values new_made ≡ taken (free_in values made)
+  pub room_taken : (new_values : List ℕ) (new_made more : ℕ) → free_stored new_values new_made ≡ taken (free_stored values made)
       → (length values ≡ 0 → made + 1 ≤ more) → room ≤ more → new_made ≤ more
   room_taken new_values new_made more left enough grown =
       let least = made_taken (reverse values) made more (λ none. enough (sym (length-reverse values) ∙ none)) (omega (arith, stored.roomy, grown)) in
       subst (λ (n : ℕ). n ≤ more) (sym (ap (λ (f : Free). f.made) left)) least
 
-  pub room_given : (new_values : List ℕ) (new_made v : ℕ) → free_in new_values new_made ≡ given_back v (free_in values made) → new_made ≤ room
+  pub room_given : (new_values : List ℕ) (new_made v : ℕ) → free_stored new_values new_made ≡ given_back v (free_stored values made) → new_made ≤ room
   room_given new_values new_made v left =
       subst (λ (n : ℕ). n ≤ room) (sym (ap (λ (f : Free). f.made) left)) (made_given v (reverse values) made room stored.roomy)
 
@@ -268,17 +268,17 @@ no_length : {A : Type 0} (xs : List A) → length xs ≡ 0 → xs ≡ []
 no_length [] e = refl
 no_length (x ∷ xs) e = absurd (omega (arith, e))
 
-pub none_counted : (s : Slab Entry) → slab_len s ≡ 0 → handles_in s ≡ []
-none_counted s none = no_length (handles_in s) (length_handles s ∙ none)
+pub none_counted : (s : Slab Entry) → slab_len s ≡ 0 → handles_stored s ≡ []
+none_counted s none = no_length (handles_stored s) (length_handles s ∙ none)
 
-pub empty_by : (s : Slab Entry) (result : Bool) → result ≡ (slab_len s == 0) → IsTrue result ↔ (handles_in s ≡ [])
+pub empty_by : (s : Slab Entry) (result : Bool) → result ≡ (slab_len s == 0) → IsTrue result ↔ (handles_stored s ≡ [])
 empty_by s result is = (
   λ yes_. none_counted s (eqb-true (slab_len s) 0 (sym is ∙ yes_)),
   λ none. is ∙ eq-eqb (slab_len s) 0 (sym (length_handles s) ∙ ap length none),
 )
 
 -- no entry comes first where there is none
-pub none_first : (s : Slab Entry) → entries s ≡ [] → handles_in s ≡ []
+pub none_first : (s : Slab Entry) → entries s ≡ [] → handles_stored s ≡ []
 none_first s none = none_counted s (sym (length-entries s) ∙ ap length none)
 
 -- the first entry stands at its key

@@ -4,7 +4,7 @@ ghost use Rattle.zl_rights.specs.Numbers.{bits, takes};
 ghost use Rattle.zl_rights.specs.Map.{get, has_key, update};
 ghost use Rattle.zl_rights.specs.LookUp.{looked_up};
 ghost use Rattle.std.specs.Vec.{vec_capacity};
-ghost use Rattle.zl_table.specs.Stored.{free_in};
+ghost use Rattle.zl_table.specs.Stored.{free_stored};
 ghost use Rattle.zl_rights.specs.Values.{CAPACITY, IsFree, given_back, new_free, offered, taken};
 ghost use Rattle.zl_table.specs.Table.{MOST_VALUE, IsFull, IsTable, Inserts, Removes, Undoes, TakesBack, refused_entry};
 
@@ -266,7 +266,7 @@ impl Table {
 /// The value that the next insertion gets.
 fn next_value(freed: &Vec<HValue>, made: HValue) -> HValue
     requires { made ≤ CAPACITY }
-    ensures { result ≡ offered (free_in freed.now.items made) }
+    ensures { result ≡ offered (free_stored freed.now.items made) }
 {
     match freed.last() {
         Some(value) => *value,
@@ -290,7 +290,8 @@ fn make_room(freed: &mut Vec<HValue>, made: HValue) -> Result<(), AllocError>
 /// The next insertion gets its value.
 fn take_value(freed: &mut Vec<HValue>, made: &mut HValue)
     requires { made.old ≤ CAPACITY }
-    ensures free { free_in freed.new.items made.new ≡ taken (free_in freed.old.items made.old) }
+    ensures free { free_stored freed.new.items made.new
+        ≡ taken (free_stored freed.old.items made.old) }
     ensures room { vec_capacity freed.new ≡ vec_capacity freed.old }
 {
     if freed.pop().is_none() {
@@ -302,7 +303,8 @@ fn take_value(freed: &mut Vec<HValue>, made: &mut HValue)
 fn give_back(freed: &mut Vec<HValue>, made: &mut HValue, value: HValue)
     requires some { 0 < value }
     requires room { length freed.old.items < vec_capacity freed.old }
-    ensures free { free_in freed.new.items made.new ≡ given_back value (free_in freed.old.items made.old) }
+    ensures free { free_stored freed.new.items made.new
+        ≡ given_back value (free_stored freed.old.items made.old) }
     ensures room { vec_capacity freed.new ≡ vec_capacity freed.old }
 {
     if freed.is_empty() && value == *made {

@@ -9,7 +9,7 @@ use Rattle.zl_code.specs.Tests.{answer_if}
 use Rattle.zl_code.specs.First.{first_some}
 use Rattle.zl_objects.specs.declared.object.Object.{Object}
 use Rattle.zl_objects.specs.Objects.{Objects, has_place, held_once_more}
-use Rattle.zl_objects.specs.Listed.{may_register}
+use Rattle.zl_objects.specs.Listed.{may_register_here}
 use Rattle.zl_code.proofs.RowsWords.{Refuses, Passes, world_of, process_of, event_with, FIRST_RIGHTS}
 
 -- Process 2 has a handle to event 3, and in the queue of the end 4 there is a message with so many more.
@@ -52,6 +52,6 @@ rows_of_objects :
     × ((o : Object) → (held_once_more (record o { handles = 2 ^ 62 })).handles ≡ 2 ^ 62)
     × ((o : Object) → (held_once_more (record o { handles = 2 ^ 62 - 1 })).handles ≡ 2 ^ 62)
     -- So it is with the waits that were ever registered.
-    × ((r : Objects) → may_register (record r { waits_made = 2 ^ 62 }) ≡ false)
-    × ((r : Objects) → may_register (record r { waits_made = 2 ^ 62 - 1 }) ≡ true)
+    × ((r : Objects) → may_register_here (record r { waits_made = 2 ^ 62 }) ≡ false)
+    × ((r : Objects) → may_register_here (record r { waits_made = 2 ^ 62 - 1 }) ≡ true)
 rows_of_objects = (λ o. refl, λ o. refl, λ o. refl, λ o. refl, λ r. refl, λ r. refl)

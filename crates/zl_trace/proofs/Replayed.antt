@@ -9,7 +9,7 @@ use Rattle.zl_code.specs.OwnBoot.{own_boot}
 use Rattle.zl_code.specs.OwnHistory.{OwnItem, OwnRuns}
 use Rattle.zl_code.specs.OwnSteps.{own_step}
 use Rattle.zl_calls.specs.Own.{StepsOwn}
-use Rattle.zl_calls.specs.World.{own_of}
+use Rattle.zl_calls.specs.World.{own_here}
 use Rattle.zl_sched.proofs.Legal.{own_then}
 use Rattle.zl_code.specs.declared.history.TraceItem.TheVariants as item
 use Rattle.zl_calls.specs.Steps.{StepsTo, TakesStep}
@@ -18,10 +18,10 @@ use Rattle.zl_code.proofs.AwakeRuns.{runs_joined}
 -- ---- one item
 
 pub differs_by : (m : Machine) (pid : ℕ) (x own : TraceItem) (m2 : Machine) → pid_of x ≡ pid → TakesStep m pid m2 own
-    → StepsOwn m.programs (own_of m) pid own (own_of m2) → own ≢ x → StepDiffers m.programs (own_of m) x
+    → StepsOwn m.programs (own_here m) pid own (own_here m2) → own ≢ x → StepDiffers m.programs (own_here m) x
 differs_by m pid x own m2 is taken does other =
-    another own (own_of m2) (subst (λ p. Step m.programs m.world p own m2.world) (taken.pid_is ∙ sym is) taken.steps.step)
-    (subst (λ p. StepsOwn m.programs (own_of m) p own (own_of m2)) (sym is) does) other
+    another own (own_here m2) (subst (λ p. Step m.programs m.world p own m2.world) (taken.pid_is ∙ sym is) taken.steps.step)
+    (subst (λ p. StepsOwn m.programs (own_here m) p own (own_here m2)) (sym is) does) other
 
 pub differs_one : (lib : Library) (o : OwnWorld) (x : TraceItem) → single x ≡ x ∷ [] → StepDiffers lib o x → Differs lib o x
 differs_one lib o x one differs = at_step [] o x [] one refl refl differs
@@ -32,7 +32,7 @@ differs_one lib o x one differs = at_step [] o x [] one refl refl differs
 pub record RanOn (pid : ℕ) (m : Machine) (n : ℕ) (m2 : Machine) : Type 0 where
   pub programs : m2.programs ≡ m.programs
   pub runs : Runs m.programs m.world (replicate n (item.Run pid 1)) m2.world
-  pub own : OwnRuns m.programs (own_of m) (replicate n (item.Run pid 1)) (own_of m2)
+  pub own : OwnRuns m.programs (own_here m) (replicate n (item.Run pid 1)) (own_here m2)
 
 one_longer : {X : Type 0} (n : ℕ) (x : X) → replicate n x ++ (x ∷ []) ≡ replicate (n + 1) x
 one_longer zero x = refl
@@ -52,23 +52,23 @@ own_more lib o mid o2 [] x same step = (o2, subst (λ (v : OwnWorld). own_step l
 own_more lib o mid o2 (y ∷ xs) x (first, one, rest) step = (first, one, own_more lib first mid o2 xs x rest step)
 
 pub one_more_ran : (pid : ℕ) (m : Machine) (n : ℕ) (m2 m3 : Machine) → RanOn pid m n m2 → StepsTo m2 (item.Run pid 1) m3
-    → StepsOwn m2.programs (own_of m2) pid (item.Run pid 1) (own_of m3) → RanOn pid m (n + 1) m3
+    → StepsOwn m2.programs (own_here m2) pid (item.Run pid 1) (own_here m3) → RanOn pid m (n + 1) m3
 one_more_ran pid m n m2 m3 ran steps own = record {
-  own = subst (λ (items : List TraceItem). OwnRuns m.programs (own_of m) items (own_of m3)) (one_longer n (item.Run pid 1))
-      (own_more m.programs (own_of m) (own_of m2) (own_of m3) (replicate n (item.Run pid 1)) (item.Run pid 1) ran.own
-      (subst (λ lib. own_step lib (own_of m2) pid ≡ Some (own_of m3, item.Run pid 1)) ran.programs (own refl)));
+  own = subst (λ (items : List TraceItem). OwnRuns m.programs (own_here m) items (own_here m3)) (one_longer n (item.Run pid 1))
+      (own_more m.programs (own_here m) (own_here m2) (own_here m3) (replicate n (item.Run pid 1)) (item.Run pid 1) ran.own
+      (subst (λ lib. own_step lib (own_here m2) pid ≡ Some (own_here m3, item.Run pid 1)) ran.programs (own refl)));
   programs = steps.programs ∙ ran.programs;
   runs = subst (λ (items : List TraceItem). Runs m.programs m.world items m3.world) (one_longer n (item.Run pid 1))
       (runs_joined m.programs m.world (replicate n (item.Run pid 1)) m2.world (item.Run pid 1 ∷ []) m3.world ran.runs
       (m3.world, subst (λ lib. Step lib m2.world pid (item.Run pid 1) m3.world) ran.programs steps.step, refl));
 }
 
-pub differs_after : (pid : ℕ) (m : Machine) (n count : ℕ) (m2 : Machine) → n < count → RanOn pid m n m2 → StepDiffers m2.programs (own_of m2) (item.Run pid 1)
-    → Differs m.programs (own_of m) (item.Run pid count)
+pub differs_after : (pid : ℕ) (m : Machine) (n count : ℕ) (m2 : Machine) → n < count → RanOn pid m n m2 → StepDiffers m2.programs (own_here m2) (item.Run pid 1)
+    → Differs m.programs (own_here m) (item.Run pid count)
 differs_after pid m n count m2 below ran differs =
-    at_step (replicate n (item.Run pid 1)) (own_of m2) (item.Run pid 1) (replicate (count - (n + 1)) (item.Run pid 1))
+    at_step (replicate n (item.Run pid 1)) (own_here m2) (item.Run pid 1) (replicate (count - (n + 1)) (item.Run pid 1))
     (cut_before count n (item.Run pid 1) below) ran.runs ran.own
-    (subst (λ lib. StepDiffers lib (own_of m2) (item.Run pid 1)) ran.programs differs)
+    (subst (λ lib. StepDiffers lib (own_here m2) (item.Run pid 1)) ran.programs differs)
 
 -- ---- many items
 
@@ -85,8 +85,8 @@ module _ (lib : Library) (statements : List Statement) (limit : ℕ) where
         boots = replayed.boots;
         sized = replayed.sized;
         begins = replayed.begins;
-        own = own_then lib (own_boot lib statements) (own_of m) (own_of m2) items (x ∷ []) replayed.own
-            (own_of m2, subst (λ v. OwnItem v (own_of m) x (own_of m2)) replayed.programs repeats.own, refl);
+        own = own_then lib (own_boot lib statements) (own_here m) (own_here m2) items (x ∷ []) replayed.own
+            (own_here m2, subst (λ v. OwnItem v (own_here m) x (own_here m2)) replayed.programs repeats.own, refl);
         legal = record {
           counts = rw (list_all-append has_count items (x ∷ []), replayed.legal.counts, repeats.count) refl;
           run = subst (λ (run : List TraceItem). Runs lib replayed.boot run m2.world) steps
@@ -96,7 +96,7 @@ module _ (lib : Library) (statements : List Statement) (limit : ℕ) where
 
   -- an item differs, or there are too many
   pub differs_here : (all before after : List TraceItem) (x : TraceItem) (m : Machine) → all ≡ before ++ (x ∷ after) → IsReplayed lib statements limit before m
-      → Differs m.programs (own_of m) x ⊎ (length before ≡ MOST_ITEMS) → DiffersAt lib statements limit all (length before + 1)
+      → Differs m.programs (own_here m) x ⊎ (length before ≡ MOST_ITEMS) → DiffersAt lib statements limit all (length before + 1)
   differs_here all before after x m cut replayed why = record {
     before = before;
     item = x;
@@ -105,7 +105,7 @@ module _ (lib : Library) (statements : List Statement) (limit : ℕ) where
     number = refl;
     machine = m;
     replayed = replayed;
-    differs = elim why [ inl differs ↦ inl (subst (λ v. Differs v (own_of m) x) replayed.programs differs) | inr many ↦ inr many ];
+    differs = elim why [ inl differs ↦ inl (subst (λ v. Differs v (own_here m) x) replayed.programs differs) | inr many ↦ inr many ];
   }
 
   -- the item at this place comes next
@@ -116,7 +116,7 @@ module _ (lib : Library) (statements : List Statement) (limit : ℕ) where
       (one_more (take n items) m (get_or items n d) m2 replayed repeats)
 
   pub differs_at : (items : List TraceItem) (n : ℕ) (d : TraceItem) (m : Machine) → n < length items → IsReplayed lib statements limit (take n items) m
-      → Differs m.programs (own_of m) (get_or items n d) ⊎ (n ≡ MOST_ITEMS) → DiffersAt lib statements limit items (n + 1)
+      → Differs m.programs (own_here m) (get_or items n d) ⊎ (n ≡ MOST_ITEMS) → DiffersAt lib statements limit items (n + 1)
   differs_at items n d m within replayed why =
       let next : drop n items ≡ get_or items n d ∷ drop (n + 1) items = at_drop_more (λ (l : List TraceItem). l) items n d within in
       let cut : items ≡ take n items ++ (get_or items n d ∷ drop (n + 1) items) =

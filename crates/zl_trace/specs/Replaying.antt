@@ -1,6 +1,6 @@
 -- What the replay of a trace tells.
 use Rattle.std.specs.Prelude.{ℕ, ◌≡◌, ◌≢◌, ◌+◌, true, false, ◌⊎◌, List, ◌∷◌, ◌++◌, length}
-use Rattle.zl_code.specs.Common.{World as WorldValue, is_process, is_ready, Library, MOST_ITEMS, Step, IsLegalHistory, single, pid_of}
+use Rattle.zl_code.specs.Common.{World, is_process, is_ready, Library, MOST_ITEMS, Step, IsLegalHistory, single, pid_of}
 use Rattle.zl_code.specs.Boot.{IsBooted}
 use Rattle.zl_code.specs.Headline.{IsSizedBoot}
 use Rattle.zl_code.specs.Steps.{Runs, has_count}
@@ -10,19 +10,19 @@ use Rattle.zl_code.specs.Own.{OwnWorld}
 use Rattle.zl_code.specs.OwnBoot.{own_boot}
 use Rattle.zl_code.specs.OwnHistory.{OwnHistory, OwnItem, OwnRuns}
 use Rattle.zl_calls.specs.Own.{StepsOwn}
-use Rattle.zl_calls.specs.World.{Machine, own_of}
+use Rattle.zl_calls.specs.World.{Machine, own_here}
 
 -- the items are a legal history from a boot world of the statements to the world of this machine
 pub record IsReplayed (lib : Library) (statements : List Statement) (limit : ℕ) (items : List TraceItem) (m : Machine) : Type 0 where
   pub programs : m.programs ≡ lib
-  pub boot : WorldValue
+  pub boot : World
   pub boots : IsBooted lib statements limit boot
   -- images and words are in their ranges, so that what is promised of checked programs holds of these items
   pub sized : IsSizedBoot lib statements boot
   pub legal : IsLegalHistory lib boot items m.world
   -- it is the history that the lab itself has of them
   pub begins : boot ≡ (own_boot lib statements).world
-  pub own : OwnHistory lib (own_boot lib statements) items (own_of m)
+  pub own : OwnHistory lib (own_boot lib statements) items (own_here m)
 
 -- ---- one item
 
@@ -31,7 +31,7 @@ pub record Repeats (m : Machine) (x : TraceItem) (m2 : Machine) : Type 0 where
   pub programs : m2.programs ≡ m.programs
   pub count : has_count x ≡ true
   pub runs : Runs m.programs m.world (single x) m2.world
-  pub own : OwnItem m.programs (own_of m) x (own_of m2)
+  pub own : OwnItem m.programs (own_here m) x (own_here m2)
 
 -- where a step of this item is to come, the process isn't ready, or a step of it has another item, which is the lab's own unless that
 -- wants memory; a further step may have this one
@@ -57,4 +57,4 @@ pub record DiffersAt (lib : Library) (statements : List Statement) (limit : ℕ)
   pub number : n ≡ length before + 1
   pub machine : Machine
   pub replayed : IsReplayed lib statements limit before machine
-  pub differs : Differs lib (own_of machine) item ⊎ (length before ≡ MOST_ITEMS)
+  pub differs : Differs lib (own_here machine) item ⊎ (length before ≡ MOST_ITEMS)

@@ -7,7 +7,7 @@ ghost use Rattle.zl_code.specs.Steps.{pid_of};
 ghost use Rattle.zl_calls.specs.Makes.{IsReached};
 ghost use Rattle.zl_calls.specs.Own.{StepsOwn};
 ghost use Rattle.zl_calls.specs.Steps.{StepsTo};
-ghost use Rattle.zl_calls.specs.World.{own_of};
+ghost use Rattle.zl_calls.specs.World.{own_here};
 ghost use Rattle.zl_trace.specs.Replaying.{Differs, DiffersAt, IsReplayed, Repeats, StepDiffers};
 
 use crate::fault::ReplayFault;
@@ -58,7 +58,7 @@ pub fn replay(
 /// world is of no use.
 fn repeat(world: &mut World, item: TraceItem) -> bool
     ensures same { result ≡ true → Repeats world.old item world.new }
-    ensures other { result ≡ false → Differs world.old.programs (own_of world.old) item }
+    ensures other { result ≡ false → Differs world.old.programs (own_here world.old) item }
 {
     match item {
         TraceItem::Run { pid, count } => repeat_run(world, pid, count),
@@ -69,7 +69,7 @@ fn repeat(world: &mut World, item: TraceItem) -> bool
 /// Does so many local instructions of the process, if there is one at least and these come next.
 fn repeat_run(world: &mut World, pid: Pid, count: u32) -> bool
     ensures same { result ≡ true → Repeats world.old (TraceItem.Run pid count) world.new }
-    ensures other { result ≡ false → Differs world.old.programs (own_of world.old)
+    ensures other { result ≡ false → Differs world.old.programs (own_here world.old)
         (TraceItem.Run pid count) }
 {
     for turn in 0..count {
@@ -84,9 +84,9 @@ fn repeat_run(world: &mut World, pid: Pid, count: u32) -> bool
 fn repeat_step(world: &mut World, pid: Pid, item: TraceItem) -> bool
     requires pid { pid_of item ≡ pid }
     ensures same { result ≡ true → StepsTo world.old item world.new }
-    ensures own { result ≡ true → StepsOwn world.old.programs (own_of world.old) pid item
-        (own_of world.new) }
-    ensures other { result ≡ false → StepDiffers world.old.programs (own_of world.old) item }
+    ensures own { result ≡ true → StepsOwn world.old.programs (own_here world.old) pid item
+        (own_here world.new) }
+    ensures other { result ≡ false → StepDiffers world.old.programs (own_here world.old) item }
 {
     match world.step(pid) {
         Some((own, _)) => own.is_same(item),

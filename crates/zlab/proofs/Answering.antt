@@ -12,7 +12,7 @@ use Rattle.zlab.specs.declared.input.Input.TheVariants as input
 use Rattle.zlab.specs.Assembling.{BeginsAssembly, nothing_written}
 use Rattle.zl_code.specs.Own.{OwnWorld}
 use Rattle.zl_code.specs.OwnHistory.{OwnHistory}
-use Rattle.zl_calls.specs.World.{own_of}
+use Rattle.zl_calls.specs.World.{own_here}
 use Rattle.zl_sched.proofs.Legal.{ends_legal}
 use Rattle.zlab.proofs.SoundWorlds.{always_sound}
 use Rattle.zl_scenario.proofs.Programs.{are_verified}
@@ -54,7 +54,7 @@ module _ (text : List ℕ) (s : System) (pairs : List (ℕ × ℕ)) (start : IsS
     own = record {
       begins = ap (λ (o : OwnWorld). o.world) start.own;
       free = last.machine.free;
-      own = subst (λ (o : OwnWorld). OwnHistory s.machine.programs o walks.more (own_of last.machine)) start.own walks.own;
+      own = subst (λ (o : OwnWorld). OwnHistory s.machine.programs o walks.more (own_here last.machine)) start.own walks.own;
     };
     room = omega (arith, walks.room, start.limit, ap length start.items);
     ends = subst (λ (turns : List (ℕ × ℕ)). EndsBy s.machine.programs s.machine.world (turns_of turns) start.said.limit walks.more

@@ -1,13 +1,11 @@
 -- What the text leads to before the first step.
-use Rattle.zlab.proofs.Common.{BootCause, FirstFault, FitsInput, IsBoot, IsFirstFault, IsFirstFaultBy, IsInOrder, IsRead, IsScenario}
-use Rattle.zlab.proofs.Common.{IsStart, LineFault}
-use Rattle.zlab.proofs.Common.{List, None, Option, Reading, Some, Statement, System, [], ap, arith, at_limit, at_statement}
-use Rattle.zlab.proofs.Common.{get_or, length, line_cause}
-use Rattle.zlab.proofs.Common.{none-some, of_reading, of_statement, slice_get, slice_get-get_or, slice_index_or, subst, sym, ℕ, ◌<◌, ◌∙◌, ◌≡◌}
+use Rattle.zlab.proofs.Common.{BootCause, FirstFault, FitsInput, IsBoot, IsFirstFault, IsFirstFaultBy, IsInOrder, IsRead, IsScenario, IsStart, LineFault, List}
+use Rattle.zlab.proofs.Common.{None, Option, Reading, Some, Statement, System, [], ap, arith, at_limit, at_statement, get_or, length, line_cause, none-some}
+use Rattle.zlab.proofs.Common.{of_reading, of_statement, slice_get, slice_get-get_or, slice_index_or, subst, sym, ℕ, ◌<◌, ◌∙◌, ◌≡◌}
 use Rattle.zl_code.proofs.Common.{World}
 use Rattle.zl_code.specs.Headline.{IsSizedBoot}
 use Rattle.zl_code.specs.OwnBoot.{own_boot}
-use Rattle.zl_calls.specs.World.{own_of}
+use Rattle.zl_calls.specs.World.{own_here}
 use Rattle.std.proofs.lemmas.Option.{slice_get_within}
 use Rattle.zl_code.specs.declared.boot.BootCause.TheVariants as boot
 use Rattle.zl_scenario.specs.declared.cause.Cause.{Cause}
@@ -47,7 +45,7 @@ module _ (text : List ℕ) (fits : FitsInput text) (scenario : Made) (reading : 
 
   pub is_start : (s : System) (pairs : List (ℕ × ℕ)) → reading.fault ≡ None → s.machine.programs ≡ scenario.library
       → IsSizedBoot scenario.library scenario.boot.statements.items s.machine.world
-      → own_of s.machine ≡ own_boot scenario.library scenario.boot.statements.items
+      → own_here s.machine ≡ own_boot scenario.library scenario.boot.statements.items
       → s.items ≡ [] → s.out ≡ [] → s.limit ≡ scenario.boot.limit → pairs ≡ scenario.schedule.items → IsStart text s pairs
   is_start s pairs no_fault programs boots own items out limit schedule = record {
     fits = fits;

@@ -12,7 +12,7 @@ use Rattle.zl_code.specs.OwnBoot.{own_boot}
 use Rattle.zl_code.specs.OwnHistory.{OwnHistory}
 use Rattle.zl_rights.specs.Values.{Free}
 use Rattle.zl_rights.specs.Map.{Map}
-use Rattle.zl_calls.specs.World.{own_of}
+use Rattle.zl_calls.specs.World.{own_here}
 use Rattle.zl_code.specs.declared.boot.Statement.{Statement}
 use Rattle.zlab.specs.declared.engine.Booted.{Booted}
 use Rattle.zlab.specs.declared.engine.Booted.TheVariants as booted
@@ -161,7 +161,7 @@ pub record IsStart (text : List ℕ) (s : System) (pairs : List (ℕ × ℕ)) : 
   pub programs : Lists said.programs s.machine.programs
   pub accepted : AreAccepted s.machine.programs
   pub boots : IsSizedBoot s.machine.programs said.statements s.machine.world
-  pub own : own_of s.machine ≡ own_boot s.machine.programs said.statements
+  pub own : own_here s.machine ≡ own_boot s.machine.programs said.statements
   pub items : s.items ≡ []
   pub out : s.out ≡ []
   pub limit : s.limit ≡ said.limit

@@ -3,10 +3,10 @@ use Rattle.zl_calls.proofs.Common.{Bool, Entry, Grant, IsTrue, List, Map, None, 
 use Rattle.zl_calls.proofs.Common.{body_in, drop, false, false≢true, get, get_or, get_seen, handle_given, handles_given, has_default_rights, if_default}
 use Rattle.zl_calls.proofs.Common.{is_allowing, is_some, job_at, lacks_need, length, list_all, list_any, needs_more, not, option_to_list, refl, suc, sym, true}
 use Rattle.zl_calls.proofs.Common.{world_value, zero, ℕ, ◌&&◌, ◌++◌, ◌+◌, ◌<◌, ◌∙◌, ◌∷◌, ◌≡◌, ◌≢◌, ◌≤◌}
-use Rattle.zl_code.proofs.Common.{Object as ObjectValue, at_drop_more, drop_all}
+use Rattle.zl_code.proofs.Common.{Object, at_drop_more, drop_all}
 use Rattle.zl_code.specs.declared.image.Start.{Start}
 use Rattle.zl_code.specs.Jobs.{is_declared, is_only_start}
-use Rattle.zl_objects.specs.Jobs.{action_of}
+use Rattle.zl_objects.specs.Jobs.{action_here}
 use Rattle.zl_calls.specs.declared.process.Process.{Process}
 use Rattle.zl_calls.proofs.policy.Policies.{seen_action}
 use Rattle.std.proofs.Math.Bool.{and-false}
@@ -20,7 +20,7 @@ miscounted [] (e ∷ es) apart = refl
 miscounted (s ∷ ss) [] apart = refl
 miscounted (s ∷ ss) (e ∷ es) apart = rw (miscounted ss es (λ same. apart (ap (λ (n : ℕ). suc n) same))) (and-false (is_declared s e))
 
-module _ (objects : Map ObjectValue) where
+module _ (objects : Map Object) where
   -- each of them may be given
   abbrev may_all : List Grant → Bool
   may_all gs = list_all (λ g. is_some (allowed objects g)) gs
@@ -88,7 +88,7 @@ any_same f g (x ∷ xs) same = rw (same x, any_same f g xs same) refl
 
 -- what the job's own policy decides is what the definitions see
 pub needs_seen : (ps : List Process) (r : Objects) (job : ℕ) (g : Program)
-    → lacks_need (world_value ps r) job (Some g) ≡ needs_more (action_of (job_at r.objects job)) (Some g)
+    → lacks_need (world_value ps r) job (Some g) ≡ needs_more (action_here (job_at r.objects job)) (Some g)
 needs_seen ps r job g =
     ap (λ (b : Bool). g.checked && b)
     (any_same _ _ g.image.needs (λ c. rw (get_seen r.objects job) (ap (λ a. not (is_allowing a)) (seen_action (get r.objects job) c))))

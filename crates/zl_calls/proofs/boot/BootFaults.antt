@@ -2,7 +2,7 @@
 use Rattle.zl_calls.proofs.Common.{Bool, BootCause, Entry, Grant, IsTrue, Kind, Library, List, MOST_GRANTS, MOST_KOIDS, MOST_PROCESSES, Map, None, Objects}
 use Rattle.zl_calls.proofs.Common.{Option, Program, Some, World, [], all_known, allowed, and_le_l, and_parts, ap, are_misfits, arith, bit_and, body_in}
 use Rattle.zl_calls.proofs.Common.{body_value, boot_fault, cases_Bool, default_rights_of, eqb-true, false, false≢true, first_some, get, get_seen, handle_given}
-use Rattle.zl_calls.proofs.Common.{handles_given, has_default_rights, has_key, if_default, inl, inr, is_job, is_some, kind_at, kind_in, kind_of, lacks_need}
+use Rattle.zl_calls.proofs.Common.{handles_given, has_default_rights, has_key, if_default, inl, inr, is_job, is_some, kind_here, kind_in, kind_of, lacks_need}
 use Rattle.zl_calls.proofs.Common.{length, list_all, map, may_start_with, nat_le, nat_lt, nat_tests, not, object_entry, object_value, option_map}
 use Rattle.zl_calls.proofs.Common.{option_to_list, or_left, or_right, refl, rights_given, rights_if, rights_of, slice_get, slice_get_past, sym, then_some, true}
 use Rattle.zl_calls.proofs.Common.{within, world_value, ℕ, ◌&&◌, ◌++◌, ◌+◌, ◌<◌, ◌^◌, ◌||◌, ◌∙◌, ◌∷◌, ◌≡◌, ◌≤◌, ◌⊎◌}
@@ -14,15 +14,15 @@ use Rattle.zl_objects.specs.declared.object.Body.{Body}
 use Rattle.zl_objects.specs.declared.object.Body.TheVariants as body
 use Rattle.zl_objects.specs.declared.object.Object.{Object}
 use Rattle.zl_calls.specs.declared.process.Process.{Process}
-use Rattle.zl_objects.specs.Objects.{is_job_in as is_job_object, is_job_body as is_job_here}
+use Rattle.zl_objects.specs.Objects.{is_job_in, is_job_here}
 use Rattle.zl_calls.proofs.waits.Ending.{kind_there}
 
 -- ---- jobs
 
-pub job_seen : (ps : List Process) (r : Objects) (k : ℕ) → is_job (world_value ps r) k ≡ is_job_object (get r.objects k)
+pub job_seen : (ps : List Process) (r : Objects) (k : ℕ) → is_job (world_value ps r) k ≡ is_job_in (get r.objects k)
 job_seen ps r k = rw (get_seen r.objects k) (by_object (get r.objects k))
   where
-    by_object : (o : Option Object) → is_job_body (body_in (option_map object_value o)) ≡ is_job_object o
+    by_object : (o : Option Object) → is_job_body (body_in (option_map object_value o)) ≡ is_job_in o
     by_object None = refl
     by_object (Some o) = by_body o.body
       where
@@ -33,7 +33,7 @@ job_seen ps r k = rw (get_seen r.objects k) (by_object (get r.objects k))
 -- ---- handles
 
 module _ (objects : Map Object) where
-  pub known_seen : (gs : List Grant) → all_known (map object_entry objects) gs ≡ list_all (λ g. is_some (kind_at objects g.koid)) gs
+  pub known_seen : (gs : List Grant) → all_known (map object_entry objects) gs ≡ list_all (λ g. is_some (kind_here objects g.koid)) gs
   known_seen [] = refl
   known_seen (g ∷ gs) = λ i. sym (kind_there objects g.koid) i && known_seen gs i
 
@@ -44,7 +44,7 @@ module _ (objects : Map Object) where
       option_map (λ rights. record { koid = g.koid; kind = kind; rights = rights })
       (rights_if (within (rights_given g.rights kind) (default_rights_of kind)) (rights_given g.rights kind))
 
-  pub handle_seen : (g : Grant) → allowed (map object_entry objects) g ≡ with_kind g (kind_at objects g.koid)
+  pub handle_seen : (g : Grant) → allowed (map object_entry objects) g ≡ with_kind g (kind_here objects g.koid)
   handle_seen g = rw (get_seen objects g.koid) (by_object (get objects g.koid))
     where
       by_test : (k : Kind) (b : Bool) → then_some {T = Entry} b (record { koid = g.koid; kind = k; rights = rights_of (rights_given g.rights k) })

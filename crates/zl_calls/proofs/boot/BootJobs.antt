@@ -2,16 +2,16 @@
 use Rattle.zl_calls.proofs.Common.{Bool, BootCause, Condition, Err, IsCauseOf, IsMaking, IsTrue, Job, JobFault, Library, List, Made, Makes, Map, None, Objects}
 use Rattle.zl_calls.proofs.Common.{Ok, OnOk, Option, Result, ShowStates, Some, Status, World, [], ap, arith, body_of, body_value, boot_effect, boot_fault}
 use Rattle.zl_calls.proofs.Common.{conflicts, false, false≢true, first_some, get, has_child, has_child_at, if◌then◌else◌, is_above, is_in_job, is_job}
-use Rattle.zl_calls.proofs.Common.{is_job_at, is_job_body, is_job_in, is_killed, job_at, job_shown, job_within, keeper_of, koid_fault, lacks_koids, new_in}
+use Rattle.zl_calls.proofs.Common.{is_job_at, is_job_here, is_job_in, is_killed, job_at, job_shown, job_within_here, keeper_of, koid_fault, lacks_koids, new_in}
 use Rattle.zl_calls.proofs.Common.{object_value, on_object, policy_changed, process_shown, refl, runs, seen, setting, setting_policy, subst, sym, then_some}
 use Rattle.zl_calls.proofs.Common.{true, with_new, with_object, with_policy_body, with_policy_set, ℕ, ⊤, ◌||◌, ◌∙◌, ◌∷◌, ◌≡◌}
 use Rattle.zl_code.proofs.Common.{Action, Object as ObjectValue}
-use Rattle.zl_code.specs.Jobs.{job_within as body_within}
+use Rattle.zl_code.specs.Jobs.{job_within}
 use Rattle.zl_code.specs.declared.boot.BootCause.TheVariants as cause
 use Rattle.zl_code.specs.declared.boot.Statement.TheVariants as statement
 use Rattle.zl_rights.specs.declared.policy.Mode.TheVariants as mode
 use Rattle.zl_rights.specs.declared.status.Status.TheVariants as status
-use Rattle.zl_jobs.specs.Jobs.{is_deepest as is_deepest_job}
+use Rattle.zl_jobs.specs.Jobs.{is_deepest_here}
 use Rattle.zl_jobs.specs.declared.job.JobFault.TheVariants as fault
 use Rattle.zl_objects.specs.declared.object.Body.{Body}
 use Rattle.zl_objects.specs.declared.object.Body.TheVariants as body
@@ -30,7 +30,7 @@ use Rattle.zl_calls.proofs.lists.Updates.{update_seen}
 job_there : (os : Map Object) (k : ℕ) → is_job_at os k ≡ true → IsJobAt os k
 job_there os k is = by_object (get os k) refl is
   where
-    by_body : (o : Object) (b : Body) → get os k ≡ Some o → o.body ≡ b → is_job_body b ≡ true → IsJobAt os k
+    by_body : (o : Object) (b : Body) → get os k ≡ Some o → o.body ≡ b → is_job_here b ≡ true → IsJobAt os k
     by_body o (body.Job job) at same h = record { object = o; there = at; job = job; is = same }
     by_body o _ at same h = absurd (false≢true h)
 
@@ -90,12 +90,12 @@ module _ (lib : Library) (before : Made) (making : IsMaking before.processes.ite
       unkilled : at.job.killed ≡ false
       unkilled = ap is_killed (sym at.is) ∙ making.alive parent at.object at.there
 
-      new_is : new_job ≡ (if is_deepest_job at.job then Err fault.OutOfRange else Ok (job_within parent at.job))
+      new_is : new_job ≡ (if is_deepest_here at.job then Err fault.OutOfRange else Ok (job_within_here parent at.job))
       new_is = rw (job_found r.objects parent at, unkilled) refl
 
-      fault_is : boot_fault lib w (statement.Job parent) ≡ then_some (is_deepest_job at.job || lacks_koids w (statement.Job parent)) cause.Limit
+      fault_is : boot_fault lib w (statement.Job parent) ≡ then_some (is_deepest_here at.job || lacks_koids w (statement.Job parent)) cause.Limit
       unfolding boot_fault
-      fault_is = rw (is_seen parent there, body_seen ps r parent at) (alone (is_deepest_job at.job || lacks_koids w (statement.Job parent)))
+      fault_is = rw (is_seen parent there, body_seen ps r parent at) (alone (is_deepest_here at.job || lacks_koids w (statement.Job parent)))
         where
           alone : (b : Bool) → first_some (None ∷ then_some b cause.Limit ∷ []) ≡ then_some b cause.Limit
           alone true = refl
@@ -103,21 +103,21 @@ module _ (lib : Library) (before : Made) (making : IsMaking before.processes.ite
 
       -- it would stand too deep
       pub too_deep : ((x : Job) → new_job ≡ Ok x → ⊥) → IsCauseOf (boot_fault lib w (statement.Job parent)) cause.Limit
-      too_deep none = rw fault_is (by_depth (is_deepest_job at.job) refl)
+      too_deep none = rw fault_is (by_depth (is_deepest_here at.job) refl)
         where
-          by_depth : (b : Bool) → is_deepest_job at.job ≡ b → IsCauseOf (then_some (b || lacks_koids w (statement.Job parent)) cause.Limit) cause.Limit
+          by_depth : (b : Bool) → is_deepest_here at.job ≡ b → IsCauseOf (then_some (b || lacks_koids w (statement.Job parent)) cause.Limit) cause.Limit
           by_depth true is = refl
-          by_depth false is = absurd (none (job_within parent at.job) (new_is ∙ rw is refl))
+          by_depth false is = absurd (none (job_within_here parent at.job) (new_is ∙ rw is refl))
 
       module _ (child : Job) (made : new_job ≡ Ok child) where
         by_depth : (b : Bool)
-            → is_deepest_job at.job ≡ b → ◌≡◌ {A = Result Job JobFault} (if b then Err fault.OutOfRange else Ok (job_within parent at.job)) (Ok child)
-            → (is_deepest_job at.job ≡ false) × (child ≡ job_within parent at.job)
+            → is_deepest_here at.job ≡ b → ◌≡◌ {A = Result Job JobFault} (if b then Err fault.OutOfRange else Ok (job_within_here parent at.job)) (Ok child)
+            → (is_deepest_here at.job ≡ false) × (child ≡ job_within_here parent at.job)
         by_depth true is h = absurd cc
         by_depth false is h = (is, cc)
 
-        fits : (is_deepest_job at.job ≡ false) × (child ≡ job_within parent at.job)
-        fits = by_depth (is_deepest_job at.job) refl (sym new_is ∙ made)
+        fits : (is_deepest_here at.job ≡ false) × (child ≡ job_within_here parent at.job)
+        fits = by_depth (is_deepest_here at.job) refl (sym new_is ∙ made)
 
         -- a koid is all that it may lack
         pub job_fault : boot_fault lib w (statement.Job parent) ≡ koid_fault before
@@ -130,8 +130,8 @@ module _ (lib : Library) (before : Made) (making : IsMaking before.processes.ite
         stands = subst (λ (o : Option ℕ). IsTrue (is_above (with_new r job 0).objects o)) (ap (λ (x : Job). keeper_of (body.Job x)) (sym fits.1))
             (stands_grown ps [] r making.sound job 0 parent at)
 
-        body_is : body_value job ≡ body_within parent (body_of w parent)
-        body_is = ap (λ (x : Job). body_value (body.Job x)) fits.1 ∙ ap (body_within parent) (sym (body_seen ps r parent at))
+        body_is : body_value job ≡ job_within parent (body_of w parent)
+        body_is = ap (λ (x : Job). body_value (body.Job x)) fits.1 ∙ ap (job_within parent) (sym (body_seen ps r parent at))
 
         pub job_makes : (x : Result ⊤ BootCause) (after : Made) → OnOk x (koid_fault before ≡ None)
             → OnOk x (after ≡ record before { objects = with_new r job 0 }) → OnOk x (Makes lib (statement.Job parent) before after)

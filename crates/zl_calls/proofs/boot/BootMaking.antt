@@ -1,14 +1,13 @@
 -- One process more, with its handles: what was made goes on being what the definitions make.
 use Rattle.zl_calls.proofs.Common.{Agrees, All, All-append, All-cons, All-nil, AreNamed, Bool, Entry, Err, Found, Gives, Grant, Image, IsBare, IsMaking}
-use Rattle.zl_calls.proofs.Common.{IsNamed, IsSound, IsTable}
-use Rattle.zl_calls.proofs.Common.{IsTrue, Library, List, Made, Makes, Message, None, Objects, Ok, OnOk, Option, ProcessBody, Program, Result, Some, World}
-use Rattle.zl_calls.proofs.Common.{any_found, ap, arith, body_in, boot_effect, boot_fault, can_start, cases_Bool, cond, count_by, count_by-le-length}
-use Rattle.zl_calls.proofs.Common.{counted_any, cpu_given, created_process, eqb-true, false, false≢true, get, handles_given, handles_to, has_ended, inl, inr}
-use Rattle.zl_calls.proofs.Common.{is_in_job, is_job_at, is_killed, is_process, is_some, length, length-append, list_any, lives, map, may_get_all, new_object}
-use Rattle.zl_calls.proofs.Common.{none-some, option_map, or_right, process_entry, process_given, process_value, process_with, process_with_all, put, refl}
-use Rattle.zl_calls.proofs.Common.{root_alone, runs, same_Some, seen, set_from, slice_get, slice_set, started_cpu, started_process, started_with, state_value}
-use Rattle.zl_calls.proofs.Common.{subst, suc, sym, true, with_handles, with_new, with_object, with_process, world_value, zero, ℕ, ⊤, ◌++◌, ◌+◌, ◌<◌, ◌==◌, ◌∙◌}
-use Rattle.zl_calls.proofs.Common.{◌∷◌, ◌≡◌, ◌≤◌, []}
+use Rattle.zl_calls.proofs.Common.{IsNamed, AreSound, IsTable, IsTrue, Library, List, Made, Makes, Message, None, Objects, Ok, OnOk, Option, ProcessBody}
+use Rattle.zl_calls.proofs.Common.{Program, Result, Some, World, any_found, ap, arith, body_in, boot_effect, boot_fault, can_start, cases_Bool, cond, count_by}
+use Rattle.zl_calls.proofs.Common.{count_by-le-length, counted_any, cpu_given, created_process, eqb-true, false, false≢true, get, handles_given, handles_to}
+use Rattle.zl_calls.proofs.Common.{has_ended, inl, inr, is_in_job, is_job_at, is_killed, is_process, is_some, length, length-append, list_any, lives, map}
+use Rattle.zl_calls.proofs.Common.{may_get_all, new_object, none-some, option_map, or_right, process_entry, process_given, process_value, process_with}
+use Rattle.zl_calls.proofs.Common.{process_with_all, put, refl, root_alone, runs, same_Some, seen, set_from, slice_get, slice_set, started_cpu, started_process}
+use Rattle.zl_calls.proofs.Common.{started_with, state_value, subst, suc, sym, true, with_handles, with_new, with_object, with_process, world_value, zero, ℕ, ⊤}
+use Rattle.zl_calls.proofs.Common.{◌++◌, ◌+◌, ◌<◌, ◌==◌, ◌∙◌, ◌∷◌, ◌≡◌, ◌≤◌, []}
 use Rattle.zl_code.proofs.Common.{Process as ProcessValue, State as StateValue, is_job_body}
 use Rattle.std.specs.Result.{is_err}
 use Rattle.zl_code.specs.declared.boot.Statement.TheVariants as statement
@@ -23,10 +22,10 @@ use Rattle.zl_calls.specs.Makes.{IsFresh}
 use Rattle.zl_code.specs.Own.{taken_all}
 use Rattle.zl_code.proofs.OwnValues.{taken_fresh}
 use Rattle.zl_rights.specs.Values.{coming}
-use Rattle.zl_calls.specs.declared.process.State.{State as OwnState}
+use Rattle.zl_calls.specs.declared.process.State.{State}
 use Rattle.zl_calls.specs.declared.process.State.TheVariants as state
 use Rattle.zl_calls.proofs.boot.BootFaults.{job_seen}
-use Rattle.zl_objects.specs.Objects.{queue_of}
+use Rattle.zl_objects.specs.Objects.{queue_held}
 use Rattle.zl_calls.proofs.objects.Grown.{found_grown, grown_seen, job_grown}
 use Rattle.zl_calls.proofs.processes.OneProcess.{counts, new_is, process_sound, processes_are}
 
@@ -36,7 +35,7 @@ module _ (ps : List Process) (p : Process) (r : Objects) (making : IsMaking ps p
     (ready : runs (state_value p.state) ≡ true) (table : IsTable p.table.entries)
     (names : (v : ℕ) (e : Entry) → get p.table.entries v ≡ Some e → IsNamed r.objects e) (in_job : IsTrue (is_job_at r.objects job))
     (left : r.next_koid ≤ 1024) where
-  abbrev sound : IsSound ps p.table.entries r
+  abbrev sound : AreSound ps p.table.entries r
   sound = making.sound
 
   abbrev n : ℕ
@@ -68,17 +67,17 @@ module _ (ps : List Process) (p : Process) (r : Objects) (making : IsMaking ps p
       is : (test : StateValue → Bool) → is_process (world_value after grown) test n ≡ test (state_value p.state)
       is = new_is ps p.table.entries r sound p pid job life.Running 0
 
-      alive : (s : OwnState) → runs (state_value s) ≡ true → lives (state_value s) ≡ true
+      alive : (s : State) → runs (state_value s) ≡ true → lives (state_value s) ≡ true
       alive state.Ready h = refl
       alive (state.Blocked awaited registers) h = refl
       alive _ h = absurd (false≢true h)
 
-      not_over : (s : OwnState) → runs (state_value s) ≡ true → has_ended (state_value s) ≡ false
+      not_over : (s : State) → runs (state_value s) ≡ true → has_ended (state_value s) ≡ false
       not_over state.Ready h = refl
       not_over (state.Blocked awaited registers) h = refl
       not_over _ h = absurd (false≢true h)
 
-  grown_sound : IsSound after [] grown
+  grown_sound : AreSound after [] grown
   grown_sound = process_sound ps p.table.entries r sound p pid job life.Running 0 table names agrees_new
       (or_right (job == 0) _ (job_grown ps p.table.entries r sound (body.Process job life.Running) 0 job in_job)) (omega (arith, left))
       none_of_its_own [] (λ j. all (n == j) (count_by (λ h. h.1.koid == j) p.table.entries))
@@ -232,7 +231,7 @@ starts_making = record {
     tables = λ k q at. absurd (none-some q at);
     named = λ k q v e at there. absurd (none-some q at);
     queued =
-        λ k o at. found (λ j x. AreNamed root_alone.objects (queue_of x.body)) (All-nil (λ (x : Message). All (IsNamed root_alone.objects) x.handles)) k o at;
+        λ k o at. found (λ j x. AreNamed root_alone.objects (queue_held x.body)) (All-nil (λ (x : Message). All (IsNamed root_alone.objects) x.handles)) k o at;
     counted = λ k o at. found (λ j x. x.handles ≡ handles_to (world_value [] root_alone) j + 0) refl k o at;
     agrees = λ k o at. found (λ j x. Agrees (world_value [] root_alone) j x.body) refl k o at;
     in_jobs = λ k o at. found (λ j x. IsTrue (is_in_job root_alone.objects x.body)) refl k o at;

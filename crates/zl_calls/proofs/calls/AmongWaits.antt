@@ -1,6 +1,6 @@
 -- A call that looks at registered waits: it is done beside them and any blocked processes, or refused with nothing changed.
 use Rattle.zl_calls.proofs.Common.{Bool, Does, Err, Handles, IsConsistent, Library, List, Objects, Ok, Option, Outcome, Replies, Result, Site, Status, Wait}
-use Rattle.zl_calls.proofs.Common.{World, [], ap, may_want, refusal, replied, replied_among, status_of, subst, sym, taken, values_of, with_waiters}
+use Rattle.zl_calls.proofs.Common.{World, [], ap, may_want, plain_refusal, replied, replied_among, status_of, subst, sym, taken, values_of, with_waiters}
 use Rattle.zl_calls.proofs.Common.{world_blocked, world_value, ℕ, ◌∙◌, ◌≡◌}
 use Rattle.zl_rights.specs.declared.status.Status.TheVariants as status
 use Rattle.zl_code.specs.declared.history.Outcome.TheVariants as outcome
@@ -24,7 +24,7 @@ module _ {before after : List Process} {r : Objects} {p p2 : Process} (lib : Lib
       (λ i. with_waiters (ends i) (listed i) (counted i) blocked) ∙ sym (replied_among p.pid waits made blocked middle s answer values)
 
   module _ {A : Type 0} (values : A → List ℕ) (Done : A → Handles → Objects → Type 0) (wants : Status → Bool) (o : Option Status)
-      (refused : (blocked : List ℕ) → refusal lib (world_blocked before r blocked) p.pid s.request ≡ answers o)
+      (refused : (blocked : List ℕ) → plain_refusal lib (world_blocked before r blocked) p.pid s.request ≡ answers o)
       (wanting : (blocked : List ℕ) → wants ≡ may_want s.request)
       (takes_none : taken_handles s.request ≡ [])
       (nothing : (blocked : List ℕ) → TellsNothing lib (world_blocked before r blocked) p.pid s)

@@ -1,9 +1,9 @@
 -- The call wait_async, from its table and objects to a step beside the registered waits.
 use Rattle.zl_calls.proofs.Common.{AtCall, CallName, IsAnswered, IsConsistent, Library, List, Objects, Outcome, Ready, RegistersWait, Replies, Site, Some}
 use Rattle.zl_calls.proofs.Common.{Values, WAIT, WRITE, WaitAsyncDoes, World, [], any, ap, async_refusal, effect, get, gives_ok, gives_refused, handle_operands}
-use Rattle.zl_calls.proofs.Common.{insert_all, is_mask, listed, may_choose, may_register, new_handles, next_for, no_value, not, operands_fault, process_value}
-use Rattle.zl_calls.proofs.Common.{refl, refusal, remove_all, replied, site, state_value, subst, sym, taken_handles, told_by, wait_async, wait_for, wait_of}
-use Rattle.zl_calls.proofs.Common.{wait_value, wants_memory, watching, world_blocked, world_value, ℕ, ◌++◌, ◌+◌, ◌∙◌, ◌∷◌, ◌≡◌}
+use Rattle.zl_calls.proofs.Common.{insert_all, is_mask, listed, may_choose, may_register_here, new_handles, next_for, no_value, not, operands_fault}
+use Rattle.zl_calls.proofs.Common.{plain_refusal, process_value, refl, remove_all, replied, site, state_value, subst, sym, taken_handles, told_by, wait_async}
+use Rattle.zl_calls.proofs.Common.{wait_for, wait_of, wait_value, wants_memory, watching, world_blocked, world_value, ℕ, ◌++◌, ◌+◌, ◌∙◌, ◌∷◌, ◌≡◌}
 use Rattle.zl_rights.specs.World.{Wait as WaitValue}
 use Rattle.zl_rights.specs.declared.kind.Kind.TheVariants as kind
 use Rattle.zl_rights.specs.declared.status.Status.TheVariants as status
@@ -30,12 +30,13 @@ module _ {before after : List Process} {r : Objects} {p p2 : Process} (lib : Lib
 
     -- ---- the answer
 
-    async_refused : (blocked : List ℕ) → refusal lib (among blocked) p.pid (wait_async h port key mask) ≡ answers (async_refusal p.table.entries r h port mask)
+    async_refused : (blocked : List ℕ) → plain_refusal lib (among blocked) p.pid (wait_async h port key mask)
+        ≡ answers (async_refusal p.table.entries r h port mask)
     unfolding handle_operands operands_fault listed
     async_refused blocked =
         both_looked_up lib (among blocked) p.pid p.table.entries (table_is write r) async_site.request
         (async_refusal p.table.entries r h port mask) h port any (kind.Port ∷ []) WAIT WRITE refl (λ s is. rw is refl) (λ e s is fails. rw (is, fails) refl)
-        (λ e f is are at also. rw (is, are) (two_tests (not (is_mask mask)) (not (may_register r)) status.InvalidArgs status.NoResources))
+        (λ e f is are at also. rw (is, are) (two_tests (not (is_mask mask)) (not (may_register_here r)) status.InvalidArgs status.NoResources))
 
     -- ---- the relation of calls
 

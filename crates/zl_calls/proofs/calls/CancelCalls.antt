@@ -2,7 +2,7 @@
 use Rattle.zl_calls.proofs.Common.{AtCall, CallName, Cancels, IsAnswered, IsConsistent, Library, List, Objects, Outcome, Packet, Port, PortCancelDoes, Ready}
 use Rattle.zl_calls.proofs.Common.{Replies, Site, Source, Values, WRITE, World, [], any, cancel_refusal, changing_port, effect, filter, get, gives_ok}
 use Rattle.zl_calls.proofs.Common.{gives_refused, handle_operands, insert_all, is_from, is_keyed, list_any, listed, may_choose, new_handles, next_for, no_value}
-use Rattle.zl_calls.proofs.Common.{not, object_at, on_object, operands_fault, packets_cancelled, packets_in, port_cancel, process_value, refl, refusal}
+use Rattle.zl_calls.proofs.Common.{not, object_at, on_object, operands_fault, packets_cancelled, packets_found, plain_refusal, port_cancel, process_value, refl}
 use Rattle.zl_calls.proofs.Common.{remove_all, replied, site, source_at, source_of, state_value, taken_handles, told_by, wants_nothing, without_keyed}
 use Rattle.zl_calls.proofs.Common.{without_packets, world_blocked, world_value, ℕ, ◌||◌, ◌∙◌, ◌∷◌, ◌≡◌}
 use Rattle.zl_rights.specs.declared.kind.Kind.TheVariants as kind
@@ -30,7 +30,7 @@ module _ {before after : List Process} {r : Objects} {p p2 : Process} (lib : Lib
     -- ---- the answer
 
     cancel_refused : (blocked : List ℕ)
-        → refusal lib (among blocked) p.pid (port_cancel port source key) ≡ answers (cancel_refusal p.table.entries r p.pid port source key)
+        → plain_refusal lib (among blocked) p.pid (port_cancel port source key) ≡ answers (cancel_refusal p.table.entries r p.pid port source key)
     unfolding handle_operands operands_fault listed
     cancel_refused blocked =
         both_looked_up lib (among blocked) p.pid p.table.entries (table_is write r) cancel_site.request
@@ -38,7 +38,7 @@ module _ {before after : List Process} {r : Objects} {p p2 : Process} (lib : Lib
         (λ e s is fails. rw (is, fails) refl)
         (λ e f is are at also. rw (is, are, table_is write r, at, also, packets_there r.objects e.koid)
         (one_test (not (list_any (is_keyed p.pid source e.koid key) r.waits
-        || list_any (is_from (source_of p.pid source f) key) (packets_in (get r.objects e.koid)))) status.NotFound))
+        || list_any (is_from (source_of p.pid source f) key) (packets_found (get r.objects e.koid)))) status.NotFound))
 
     -- ---- the relation of calls
 

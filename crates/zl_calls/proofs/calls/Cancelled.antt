@@ -1,8 +1,8 @@
 -- What wait_async and port_cancel find: the handles of the caller, and that where no packet passes a test none leaves the port.
 use Rattle.zl_calls.proofs.Common.{Bool, EndsWaits, Entry, Err, Handles, IsTrue, List, Map, None, Objects, Ok, Option, Packet, PortCancelDoes, Signals, Some}
 use Rattle.zl_calls.proofs.Common.{WAIT, WRITE, WaitAsyncDoes, [], ap, at_port, bits, cases_Bool, changed_port, changing_port, eqb-true, false, filter, get}
-use Rattle.zl_calls.proofs.Common.{granted, inl, inr, is_from, is_keyed, is_mask, length, list_any, looked_up, may_register, none-some, not, option_map}
-use Rattle.zl_calls.proofs.Common.{packets_in, packets_of, port_at, refl, same_Some, source_of, sym, true, update, watching, without_packets, ℕ, ◌==◌, ◌||◌}
+use Rattle.zl_calls.proofs.Common.{granted, inl, inr, is_from, is_keyed, is_mask, length, list_any, looked_up, may_register_here, none-some, not, option_map}
+use Rattle.zl_calls.proofs.Common.{packets_found, packets_of, port_at, refl, same_Some, source_of, sym, true, update, watching, without_packets, ℕ, ◌==◌, ◌||◌}
 use Rattle.zl_calls.proofs.Common.{◌∙◌, ◌∷◌, ◌≡◌, ◌⊎◌}
 use Rattle.std.proofs.Math.Nat.{suc-ne-zero}
 use Rattle.zl_rights.specs.declared.status.Status.TheVariants as status
@@ -54,7 +54,7 @@ found_entry h value e (Some y) is =
 -- the wait was registered
 pub wait_registered : (t : Handles) (r r2 : Objects) (pid h port key mask : ℕ) (watched receiver : Entry)
     → looked_up t.entries h [] WAIT ≡ Ok watched → port_at t.entries port WRITE ≡ Ok receiver
-    → (value : ℕ) → value ≡ h → (m : Signals) → m.0 ≡ mask → is_mask mask ≡ true → may_register r ≡ true
+    → (value : ℕ) → value ≡ h → (m : Signals) → m.0 ≡ mask → is_mask mask ≡ true → may_register_here r ≡ true
     → r2 ≡ watching r (record { pid = pid; value = value; object = watched.koid; port = receiver.koid; key = key; mask = m })
     → WaitAsyncDoes pid h port key mask t r (Ok tt) t r2
 wait_registered t r r2 pid h port key mask watched receiver is_watched is_receiver value same m masked is may objects = record {
@@ -76,7 +76,7 @@ wait_registered t r r2 pid h port key mask watched receiver is_watched is_receiv
 -- ---- port_cancel
 
 -- a port that no such packet is at is the same without them
-uncancelled : (m : Map Object) (k : ℕ) (test : Packet → Bool) → length (filter test (packets_in (get m k))) ≡ 0
+uncancelled : (m : Map Object) (k : ℕ) (test : Packet → Bool) → length (filter test (packets_found (get m k))) ≡ 0
     → update m k (at_port (λ p. without_packets p test)) ≡ m
 unfolding get update
 uncancelled [] k test none = refl
@@ -96,7 +96,7 @@ module _ (t : Handles) (r : Objects) (pid port source key : ℕ) (receiver named
   of_source = is_from (source_of pid source named) key
 
   abbrev at_it : List Packet
-  at_it = packets_in (get r.objects receiver.koid)
+  at_it = packets_found (get r.objects receiver.koid)
 
   abbrev packed : Objects
   packed = changing_port r receiver.koid (λ p. without_packets p of_source)

@@ -1,7 +1,7 @@
 -- That a call is done: it is a step up to where processes wake, and the invariant holds afterwards.
-use Rattle.zl_calls.proofs.Common.{AtCall, Bool, CallName, Calls, Does, Err, Handles, IsActed, IsAnswered, IsConsistent, Library, List, Objects, Ok, Option}
-use Rattle.zl_calls.proofs.Common.{Outcome, Ready, Replies, Result, Site, Status, Told, World, [], ap, may_want, next_for, process_value, refusal, replied}
-use Rattle.zl_calls.proofs.Common.{state_value, status_of, subst, sym, taken, told_by, values_of, world_blocked, world_value, ℕ, ◌∙◌, ◌≡◌}
+use Rattle.zl_calls.proofs.Common.{AtCall, Bool, CallName, Does, Err, Handles, IsActed, IsAnswered, IsConsistent, Library, List, Objects, Ok, Option, Outcome}
+use Rattle.zl_calls.proofs.Common.{PlainCalls, Ready, Replies, Result, Site, Status, Told, World, [], ap, may_want, next_for, plain_refusal, process_value}
+use Rattle.zl_calls.proofs.Common.{replied, state_value, status_of, subst, sym, taken, told_by, values_of, world_blocked, world_value, ℕ, ◌∙◌, ◌≡◌}
 use Rattle.zl_rights.specs.declared.status.Status.TheVariants as status
 use Rattle.zl_code.specs.declared.history.Outcome.TheVariants as outcome
 use Rattle.zl_code.specs.declared.history.TraceItem.TheVariants as item
@@ -23,13 +23,13 @@ pub record IsDone (lib : Library) (before after : List Process) (r r2 : Objects)
 
 -- the call in its world, and the invariant
 pub record IsCalled (lib : Library) (before after : List Process) (r r2 : Objects) (pid : ℕ) (s : Site) (ends : Outcome) : Type 0 where
-  pub calls : Calls lib (world_value before r) pid s ends (world_value after r2)
+  pub calls : PlainCalls lib (world_value before r) pid s ends (world_value after r2)
   pub own : is_process (world_value before r) lives pid ≡ true → IsOwn before after r pid s.request calls.0
   pub keeps : IsConsistent after r2
 
 -- the call beside registered waits and any blocked processes, and the invariant
 pub record IsCalledAmong (lib : Library) (before after : List Process) (r r2 : Objects) (pid : ℕ) (s : Site) (ends : Outcome) : Type 0 where
-  pub calls : (blocked : List ℕ) → Calls lib (world_blocked before r blocked) pid s ends (world_blocked after r2 blocked)
+  pub calls : (blocked : List ℕ) → PlainCalls lib (world_blocked before r blocked) pid s ends (world_blocked after r2 blocked)
   pub own : is_process (world_value before r) lives pid ≡ true → (blocked : List ℕ) → IsOwn before after r pid s.request (calls blocked).0
   pub keeps : IsConsistent after r2
 
@@ -60,7 +60,7 @@ module _ {before after : List Process} {r : Objects} {p p2 : Process} (lib : Lib
   module _ {A : Type 0} (s : Site) (values : A → List ℕ) (Acts : Handles → Objects → Result A Status → Handles → Objects → Type 0)
       (Done : A → Handles → Objects → Type 0) (wants : Status → Bool) (o : Option Status)
       (does : (answer : Result A Status) → Acts p.table r answer p2.table r2 → Does Done wants o p.table r answer p2.table r2)
-      (refused : refusal lib w p.pid s.request ≡ answers o) (wanting : wants ≡ may_want s.request) (takes_none : taken_handles s.request ≡ [])
+      (refused : plain_refusal lib w p.pid s.request ≡ answers o) (wanting : wants ≡ may_want s.request) (takes_none : taken_handles s.request ≡ [])
       (nothing : TellsNothing lib w p.pid s)
       (done : (x : A) → Done x p2.table r2 → Replies s status.Ok (values x) p p2 → IsCalled lib before after r r2 p.pid s (outcome.Answered status.Ok)) where
     taken_none : taken w p.pid s ≡ w

@@ -2,10 +2,10 @@
 use Rattle.zl_calls.proofs.Common.{Entry, IsConsistent, IsNamed, Library, List, Map, None, Objects, Replies, SIGNAL, SIGNAL_PEER, Site, Some, Values, World, []}
 use Rattle.zl_calls.proofs.Common.{ap, bits, body_in, body_of, body_value, changing, effect, event_create, get, get_seen, gives_ok, gives_refused}
 use Rattle.zl_calls.proofs.Common.{handle_operands, has_koids, has_room, insert_all, is_some, kind_of, listed, map, may_choose, new_handles, no_value, not}
-use Rattle.zl_calls.proofs.Common.{object_changed, object_entry, on_object, one_value, operands_fault, peer_at, process_value, raised_changed, refl, refusal}
-use Rattle.zl_calls.proofs.Common.{remove_all, replied, runs, settable_at, settable_of, signal, signal_peer, site, sym, taken_handles, told_by, wants_nothing}
-use Rattle.zl_calls.proofs.Common.{within, world_value, ℕ, ⊤, ◌∙◌, ◌∷◌, ◌≡◌}
-use Rattle.zl_code.specs.Tests.{peer_at as peer_named}
+use Rattle.zl_calls.proofs.Common.{object_changed, object_entry, on_object, one_value, operands_fault, peer_here, plain_refusal, process_value, raised_changed}
+use Rattle.zl_calls.proofs.Common.{refl, remove_all, replied, runs, settable_at, settable_of, signal, signal_peer, site, sym, taken_handles, told_by}
+use Rattle.zl_calls.proofs.Common.{wants_nothing, within, world_value, ℕ, ⊤, ◌∙◌, ◌∷◌, ◌≡◌}
+use Rattle.zl_code.specs.Tests.{peer_at}
 use Rattle.zl_rights.specs.declared.kind.Kind.TheVariants as kind
 use Rattle.zl_rights.specs.declared.status.Status.TheVariants as status
 use Rattle.zl_code.specs.declared.history.Outcome.TheVariants as outcome
@@ -45,7 +45,7 @@ module _ {before after : List Process} {r : Objects} {p p2 : Process} (lib : Lib
     create_site = site event_create consumed destinations
 
     pub event_done : IsDoneBy lib before after r r2 p p2 create_site (told_by one_value) EventCreateDoes
-    unfolding refusal handle_operands operands_fault listed has_room has_koids taken_handles remove_all gives_refused may_choose
+    unfolding plain_refusal handle_operands operands_fault listed has_room has_koids taken_handles remove_all gives_refused may_choose
         new_handles effect insert_all gives_ok
     event_done = made_done lib r2 consistent write create_site body.Event (λ not. not runs) refl refl
         (rw (table_is write r) (room_refused p.table.entries r.next_koid)) refl
@@ -75,7 +75,7 @@ module _ {before after : List Process} {r : Objects} {p p2 : Process} (lib : Lib
     abbrev signal_site : Site
     signal_site = site (signal h clear set) consumed destinations
 
-    refused_signal : refusal lib w p.pid signal_site.request ≡ answers (signal_refusal p.table.entries h clear set)
+    refused_signal : plain_refusal lib w p.pid signal_site.request ≡ answers (signal_refusal p.table.entries h clear set)
     unfolding handle_operands operands_fault listed
     refused_signal =
         any_looked_up lib w p.pid p.table.entries (table_is write r) signal_site.request (signal_refusal p.table.entries h clear set)
@@ -109,15 +109,15 @@ module _ {before after : List Process} {r : Objects} {p p2 : Process} (lib : Lib
     abbrev peer_site : Site
     peer_site = site (signal_peer h clear set) consumed destinations
 
-    refused_peer : refusal lib w p.pid peer_site.request ≡ answers (peer_signal_refusal p.table.entries r.objects h clear set)
+    refused_peer : plain_refusal lib w p.pid peer_site.request ≡ answers (peer_signal_refusal p.table.entries r.objects h clear set)
     unfolding handle_operands operands_fault listed
     refused_peer =
         first_looked_up lib w p.pid p.table.entries (table_is write r) peer_site.request
         (peer_signal_refusal p.table.entries r.objects h clear set) h (kind.Channel ∷ kind.Eventpair ∷ []) SIGNAL_PEER None refl (λ s is. rw is refl)
         (λ e is at. rw (is, table_is write r, at, settable_here h e at, peer_there r consistent.no_zero e.koid)
-        (two_tests (not (may_change_at e.kind clear set)) (not (is_some (peer_at r.objects e.koid))) status.InvalidArgs status.PeerClosed))
+        (two_tests (not (may_change_at e.kind clear set)) (not (is_some (peer_here r.objects e.koid))) status.InvalidArgs status.PeerClosed))
 
-    peer_same : (signals : SignalsPeer p.table r h clear set p2.table r2) → peer_named w p.pid h ≡ signals.peer
+    peer_same : (signals : SignalsPeer p.table r h clear set p2.table r2) → peer_at w p.pid h ≡ signals.peer
     peer_same signals =
         rw (table_is write r, is_found (get p.table.entries h) (kind.Channel ∷ kind.Eventpair ∷ []) SIGNAL_PEER signals.end signals.is_end)
         (peer_is r consistent.no_zero signals.end.koid signals.peer signals.is_peer)

@@ -1,14 +1,14 @@
 -- The calls on handles, close, dup and replace, each from its table and objects to a step.
-use Rattle.zl_calls.proofs.Common.{AtCall, Bool, CallName, Calls, CloseDoes, Closes, DUPLICATE, DupDoes, Dups, Entry, IsConsistent, IsNamed, IsSound, IsTable}
-use Rattle.zl_calls.proofs.Common.{IsTrue, Library, List, Map, None, Objects, Option, Ready, Refused, ReplaceDoes, Replaces, Replies, Site, Some, Status}
-use Rattle.zl_calls.proofs.Common.{Values, World, [], any, ap, arith, bits, cases_Bool, close, close_answer, cond, copy_of, cpu_answered}
+use Rattle.zl_calls.proofs.Common.{AtCall, Bool, CallName, PlainCalls, CloseDoes, Closes, DUPLICATE, DupDoes, Dups, Entry, IsConsistent, IsNamed, AreSound}
+use Rattle.zl_calls.proofs.Common.{IsTable, IsTrue, Library, List, Map, None, Objects, Option, Ready, Refused, ReplaceDoes, Replaces, Replies, Site, Some}
+use Rattle.zl_calls.proofs.Common.{Status, Values, World, [], any, ap, arith, bits, cases_Bool, close, close_answer, cond, copy_of, cpu_answered}
 use Rattle.zl_calls.proofs.Common.{default_rights_of, dup, dup_refusal, effect, entry_at, eq-eqb, eqb-true, false, first_some, get, get-put, get-update}
 use Rattle.zl_calls.proofs.Common.{get-without, gives_ok, gives_refused, granted, handle_operands, handles_to, has_key, has_key-update, has_place, has_room}
 use Rattle.zl_calls.proofs.Common.{has_room_in, held_once_more, holding, if◌then◌else◌, inl, inr, insert_all, is_empty, is_some, is_sorted, is_sorted-update}
 use Rattle.zl_calls.proofs.Common.{listed, map, may_choose, narrowed, nat_cmp, nat_lt, nat_tests, new_handles, next_for, no_value, not, object_value}
 use Rattle.zl_calls.proofs.Common.{on_process, one_value, operands_fault, option_map, option_or, passes, process_entry, process_value, process_with}
-use Rattle.zl_calls.proofs.Common.{process_without, put, refl, refusal, remove_all, replace, replace_refusal, replied, result_err, same_Some, same_map, site}
-use Rattle.zl_calls.proofs.Common.{sorted_put, sorted_without, state_value, status_of, subst, sym, table_of, taken, taken_handles, told_by, true, update}
+use Rattle.zl_calls.proofs.Common.{process_without, put, refl, plain_refusal, remove_all, replace, replace_refusal, replied, result_err, same_Some, same_map}
+use Rattle.zl_calls.proofs.Common.{site, sorted_put, sorted_without, state_value, status_of, subst, sym, table_of, taken, taken_handles, told_by, true, update}
 use Rattle.zl_calls.proofs.Common.{wants_nothing, wants_memory, with_effect, with_rights, within, without, without_handle, world_value, ℕ, ◌<◌, ◌==◌, ◌^◌, ◌||◌}
 use Rattle.zl_calls.proofs.Common.{◌∙◌, ◌∷◌, ◌≡◌, ◌⊎◌}
 use Rattle.zl_code.proofs.SoundKept.{none_raised}
@@ -40,8 +40,8 @@ use Rattle.zl_objects.proofs.Whole.{more_same}
 -- ---- the answer of close
 
 close_refused : (lib : Library) (w : World) (p h : ℕ)
-    → refusal lib w p (close h) ≡ (if has_key (table_of w p) h || h == 0 then None else Some (outcome.Answered status.BadHandle))
-unfolding refusal handle_operands operands_fault listed
+    → plain_refusal lib w p (close h) ≡ (if has_key (table_of w p) h || h == 0 then None else Some (outcome.Answered status.BadHandle))
+unfolding plain_refusal handle_operands operands_fault listed
 close_refused lib w p h = by_entry (h == 0) (get (table_of w p) h)
   where
     by_entry : (zero : Bool) (o : Option Entry) → first_some (answers (option_or (if zero then None else result_err (granted o any 0)) None) ∷ [])
@@ -89,14 +89,14 @@ module _ {before after : List Process} {r : Objects} {p p2 : Process} (lib : Lib
     close_chosen = rw (get-update w.processes p.pid (process_without h) p.pid, eq-eqb p.pid p.pid refl, write.there) refl
 
     -- and what the lab itself would choose
-    calls : (c : Calls lib w p.pid close_site (outcome.Answered answer) (world_value after r))
+    calls : (c : PlainCalls lib w p.pid close_site (outcome.Answered answer) (world_value after r))
         × (is_process w lives p.pid ≡ true → IsOwn before after r p.pid (close h) c.0)
     unfolding effect gives_ok gives_refused new_handles insert_all taken_handles handle_operands
     calls = by_test (has_key p.table.entries h || h == 0) (close_refused lib w p.pid h ∙ rw (table_is write r) refl) is_answer
       where
-        by_test : (passes : Bool) → refusal lib w p.pid close_site.request ≡ (if passes then None else Some (outcome.Answered status.BadHandle))
-            → answer ≡ (if passes then status.Ok else status.BadHandle) → (c : Calls lib w p.pid close_site (outcome.Answered answer) (world_value after r))
-            × (is_process w lives p.pid ≡ true → IsOwn before after r p.pid (close h) c.0)
+        by_test : (passes : Bool) → plain_refusal lib w p.pid close_site.request ≡ (if passes then None else Some (outcome.Answered status.BadHandle))
+            → answer ≡ (if passes then status.Ok else status.BadHandle) → (c : PlainCalls lib w p.pid close_site (outcome.Answered answer)
+            (world_value after r)) × (is_process w lives p.pid ≡ true → IsOwn before after r p.pid (close h) c.0)
         by_test true refused same = (
           (Values [], rw refused (close_chosen, ap (λ (x : Status). outcome.Answered x) same, close_ends ∙ rw same refl)),
           λ living. own_entered write r living (close h) [] [] table refl refl refl,
@@ -141,7 +141,7 @@ module _ {before after : List Process} {r : Objects} {p p2 : Process} (lib : Lib
     abbrev dup_site : Site
     dup_site = site (dup h asked) consumed destinations
 
-    refused : refusal lib w p.pid dup_site.request ≡ answers (dup_refusal p.table.entries r.objects h asked)
+    refused : plain_refusal lib w p.pid dup_site.request ≡ answers (dup_refusal p.table.entries r.objects h asked)
     unfolding handle_operands operands_fault listed has_room
     refused =
         any_looked_up lib w p.pid p.table.entries (table_is write r) dup_site.request (dup_refusal p.table.entries r.objects h asked)
@@ -191,7 +191,7 @@ module _ {before after : List Process} {r : Objects} {p p2 : Process} (lib : Lib
       room : (o : Object) → get r.objects k ≡ Some o → o.handles < 2 ^ 62
       room o at = let place : IsTrue (nat_lt o.handles (2 ^ 62)) = rw (at) at dups.place in grind (arith, nat_tests, place)
 
-      held : IsSound before ((made, copy) ∷ []) (holding r k)
+      held : AreSound before ((made, copy) ∷ []) (holding r k)
       unfolding get put
       held = holding_sound before [] r made copy (sound_of before r consistent) refl room
 
@@ -220,7 +220,7 @@ module _ {before after : List Process} {r : Objects} {p p2 : Process} (lib : Lib
     abbrev replace_site : Site
     replace_site = site (replace h asked) consumed destinations
 
-    replace_refused : refusal lib w p.pid replace_site.request ≡ answers (replace_refusal p.table.entries h asked)
+    replace_refused : plain_refusal lib w p.pid replace_site.request ≡ answers (replace_refusal p.table.entries h asked)
     unfolding handle_operands operands_fault listed
     replace_refused =
         any_looked_up lib w p.pid p.table.entries (table_is write r) replace_site.request (replace_refusal p.table.entries h asked) h 0 refl (λ is. rw is refl)

@@ -1,26 +1,26 @@
 -- The calls on jobs, job_create and job_set_policy, each from its table and objects to a step.
-use Rattle.zl_calls.proofs.Common.{Bool, Condition, Entry, Err, IsConsistent, IsNamed, IsSound, IsTrue, Job, JobBody, JobFault, Library, List, MANAGE_JOB, Map}
+use Rattle.zl_calls.proofs.Common.{Bool, Condition, Entry, Err, IsConsistent, IsNamed, AreSound, IsTrue, Job, JobBody, JobFault, Library, List, MANAGE_JOB, Map}
 use Rattle.zl_calls.proofs.Common.{None, Objects, Ok, Option, Replies, Result, SET_POLICY, Setting, Site, Some, Status, Values, World, [], answer_if, ap}
 use Rattle.zl_calls.proofs.Common.{body_of, body_value, conflicts, effect, false, false≢true, first_some, get, get_seen, gives_ok, gives_refused}
 use Rattle.zl_calls.proofs.Common.{handle_operands, has_child, has_child_at, has_koids, has_room, has_room_in, if◌then◌else◌, insert_all, is_above, is_in_job}
-use Rattle.zl_calls.proofs.Common.{is_job_at, is_some, job_at, job_create, job_set_policy, job_shown, job_within, keeper_of, kind_of, listed, looked_up, map}
-use Rattle.zl_calls.proofs.Common.{may_choose, nat_le, new_entry, new_handles, new_in, no_value, not, object_at, object_value, on_object, on_process, one_value}
-use Rattle.zl_calls.proofs.Common.{operands_fault, option_or, policy_changed, policy_in, process_entry, process_shown, process_value, process_with, refl}
-use Rattle.zl_calls.proofs.Common.{refusal, remove_all, replied, result_err, runs, setting_policy, site, subst, sym, taken_handles, takes, then_some, told_by}
-use Rattle.zl_calls.proofs.Common.{true, wants_nothing, wants_memory, with_new, with_object, with_policy_body, with_policy_set, world_value, ℕ, ⊤, ◌&&◌, ◌+◌}
-use Rattle.zl_calls.proofs.Common.{◌==◌, ◌^◌, ◌||◌, ◌∙◌, ◌∷◌, ◌≡◌}
+use Rattle.zl_calls.proofs.Common.{is_job_at, is_some, job_at, job_create, job_set_policy, job_shown, job_within_here, keeper_of, kind_of, listed, looked_up}
+use Rattle.zl_calls.proofs.Common.{map, may_choose, nat_le, new_entry, new_handles, new_in, no_value, not, object_at, object_value, on_object, on_process}
+use Rattle.zl_calls.proofs.Common.{one_value, operands_fault, option_or, policy_changed, policy_in, process_entry, process_shown, process_value, process_with}
+use Rattle.zl_calls.proofs.Common.{refl, plain_refusal, remove_all, replied, result_err, runs, setting_policy, site, subst, sym, taken_handles, takes}
+use Rattle.zl_calls.proofs.Common.{then_some, told_by, true, wants_nothing, wants_memory, with_new, with_object, with_policy_body, with_policy_set, world_value}
+use Rattle.zl_calls.proofs.Common.{ℕ, ⊤, ◌&&◌, ◌+◌, ◌==◌, ◌^◌, ◌||◌, ◌∙◌, ◌∷◌, ◌≡◌}
 use Rattle.zl_code.proofs.Common.{Action, Body as BodyValue, body_with_policy, policy_set, setting_of}
 use Rattle.zl_rights.specs.declared.kind.Kind.TheVariants as kind
 use Rattle.zl_rights.specs.declared.status.Status.TheVariants as status
 use Rattle.zl_rights.specs.Policies.{is_absolute}
-use Rattle.zl_jobs.specs.Jobs.{is_deepest as is_deepest_job}
+use Rattle.zl_jobs.specs.Jobs.{is_deepest_here}
 use Rattle.zl_jobs.specs.declared.job.JobFault.TheVariants as fault
 use Rattle.zl_code.specs.declared.history.Outcome.TheVariants as outcome
-use Rattle.zl_code.specs.Jobs.{is_conflict, is_dead as is_dead_body, is_deepest as is_deepest_body, job_within as body_within}
+use Rattle.zl_code.specs.Jobs.{is_conflict, is_dead, is_deepest, job_within}
 use Rattle.zl_objects.specs.declared.object.Body.{Body}
 use Rattle.zl_objects.specs.declared.object.Body.TheVariants as body
 use Rattle.zl_objects.specs.declared.object.Object.{Object}
-use Rattle.zl_objects.specs.Objects.{queue_of}
+use Rattle.zl_objects.specs.Objects.{queue_held}
 use Rattle.zl_calls.specs.declared.process.Process.{Process}
 use Rattle.zl_calls.specs.calls.Job.{CreatesJob, JobCreateDoes, JobSetPolicyDoes, SetsPolicy, fault_status, job_refusal, job_refusal_of}
 use Rattle.zl_calls.specs.calls.Job.{policy_refusal, policy_refusal_of}
@@ -60,7 +60,7 @@ pub job_found : (os : Map Object) (k : ℕ) (at : IsJobAt os k) → job_at os k 
 job_found os k at = rw at.there (rw at.is refl)
 
 -- it is there still beside a new object, which may stand in it
-pub stands_grown : (ps : List Process) (m : Map Entry) (r : Objects) → IsSound ps m r → (b : Body) (count k : ℕ) → IsJobAt r.objects k
+pub stands_grown : (ps : List Process) (m : Map Entry) (r : Objects) → AreSound ps m r → (b : Body) (count k : ℕ) → IsJobAt r.objects k
     → IsTrue (is_above (with_new r b count).objects (Some k))
 stands_grown ps m r sound b count k at = by_test (k == 0)
   where
@@ -108,10 +108,10 @@ module _ (c : Condition) (a : Action) where
   pub policy_keeps : KeepsKind (with_policy_set c a)
   policy_keeps o = policy_alike o.body
 
-  pub policy_quiet : (o : Object) → queue_of (with_policy_set c a o).body ≡ queue_of o.body
+  pub policy_quiet : (o : Object) → queue_held (with_policy_set c a o).body ≡ queue_held o.body
   policy_quiet o = by_body o.body
     where
-      by_body : (b : Body) → queue_of (with_policy_body c a b) ≡ queue_of b
+      by_body : (b : Body) → queue_held (with_policy_body c a b) ≡ queue_held b
       by_body (body.Job own) = refl
       by_body _ = refl
 
@@ -144,7 +144,7 @@ module _ {before after : List Process} {r : Objects} {p p2 : Process} (lib : Lib
     abbrev create_site : Site
     create_site = site (job_create j) consumed destinations
 
-    refused_create : refusal lib w p.pid create_site.request ≡ answers (job_refusal p.table.entries r j)
+    refused_create : plain_refusal lib w p.pid create_site.request ≡ answers (job_refusal p.table.entries r j)
     unfolding handle_operands operands_fault listed has_room has_koids
     refused_create =
         first_looked_up lib w p.pid p.table.entries (table_is write r) create_site.request (job_refusal p.table.entries r j)
@@ -152,11 +152,11 @@ module _ {before after : List Process} {r : Objects} {p p2 : Process} (lib : Lib
         (λ e is at. rw (is, table_is write r, at) (passes e (job_here j MANAGE_JOB e is)))
       where
         passes : (e : Entry) → IsJobAt r.objects e.koid
-            → first_some (answer_if (is_deepest_body (body_of w e.koid)) status.OutOfRange ∷ answer_if (is_dead_body (body_of w e.koid)) status.BadState
+            → first_some (answer_if (is_deepest (body_of w e.koid)) status.OutOfRange ∷ answer_if (is_dead (body_of w e.koid)) status.BadState
             ∷ answer_if (not (has_room_in p.table.entries && nat_le (r.next_koid + 1) (2 ^ 62))) status.NoResources ∷ [])
             ≡ answers (job_refusal_of p.table.entries r (Ok e))
         passes e at = rw (body_seen before r e.koid at, job_found r.objects e.koid at)
-            (by_job_tests (job_within e.koid at.job) (is_deepest_job at.job) at.job.killed
+            (by_job_tests (job_within_here e.koid at.job) (is_deepest_here at.job) at.job.killed
             (not (has_room_in p.table.entries && nat_le (r.next_koid + 1) (2 ^ 62))))
 
     module _ (made : ℕ) (creates : CreatesJob p.table r j made p2.table r2) (replies : Replies create_site status.Ok (made ∷ []) p p2) where
@@ -169,20 +169,20 @@ module _ {before after : List Process} {r : Objects} {p p2 : Process} (lib : Lib
       abbrev job : Body
       job = body.Job creates.child
 
-      child_is : creates.child ≡ job_within k above.job
-      child_is = by_tests (is_deepest_job above.job) above.job.killed (ap (new_in k) (sym (job_found r.objects k above)) ∙ creates.is_child)
+      child_is : creates.child ≡ job_within_here k above.job
+      child_is = by_tests (is_deepest_here above.job) above.job.killed (ap (new_in k) (sym (job_found r.objects k above)) ∙ creates.is_child)
         where
           by_tests : (a b : Bool) → ◌≡◌ {A = Result Job JobFault}
-              (if a then Err fault.OutOfRange else (if b then Err fault.BadState else Ok (job_within k above.job))) (Ok creates.child)
-              → creates.child ≡ job_within k above.job
+              (if a then Err fault.OutOfRange else (if b then Err fault.BadState else Ok (job_within_here k above.job))) (Ok creates.child)
+              → creates.child ≡ job_within_here k above.job
           by_tests true b h = absurd cc
           by_tests false true h = absurd cc
           by_tests false false h = cc
 
-      body_is : body_value job ≡ body_within (object_at w p.pid j) (body_of w (object_at w p.pid j))
+      body_is : body_value job ≡ job_within (object_at w p.pid j) (body_of w (object_at w p.pid j))
       body_is =
-          ap (λ (x : Job). body_value (body.Job x)) child_is ∙ (ap (λ (o : Option BodyValue). body_within k o) (sym (body_seen before r k above))
-          ∙ ap (λ (i : ℕ). body_within i (body_of w i)) (sym (named_koid j MANAGE_JOB creates.above creates.is_above)))
+          ap (λ (x : Job). body_value (body.Job x)) child_is ∙ (ap (λ (o : Option BodyValue). job_within k o) (sym (body_seen before r k above))
+          ∙ ap (λ (i : ℕ). job_within i (body_of w i)) (sym (named_koid j MANAGE_JOB creates.above creates.is_above)))
 
       -- the job above is there still
       stands : IsTrue (is_in_job (with_new r job 1).objects job)
@@ -211,7 +211,7 @@ module _ {before after : List Process} {r : Objects} {p p2 : Process} (lib : Lib
     abbrev set_site : Site
     set_site = site (job_set_policy j mode condition action) consumed destinations
 
-    refused_set : refusal lib w p.pid set_site.request ≡ answers (policy_refusal p.table.entries r.objects j mode condition action)
+    refused_set : plain_refusal lib w p.pid set_site.request ≡ answers (policy_refusal p.table.entries r.objects j mode condition action)
     unfolding handle_operands operands_fault listed
     refused_set =
         first_looked_up lib w p.pid p.table.entries (table_is write r) set_site.request
@@ -219,7 +219,7 @@ module _ {before after : List Process} {r : Objects} {p p2 : Process} (lib : Lib
         (λ e is at. rw (is, table_is write r, at) (passes e (job_here j SET_POLICY e is) (setting_of mode condition action)))
       where
         passes : (e : Entry) → IsJobAt r.objects e.koid → (o : Option Setting)
-            → first_some (answer_if (not (is_some o)) status.InvalidArgs ∷ answer_if (is_dead_body (body_of w e.koid) || has_child w e.koid) status.BadState
+            → first_some (answer_if (not (is_some o)) status.InvalidArgs ∷ answer_if (is_dead (body_of w e.koid) || has_child w e.koid) status.BadState
             ∷ answer_if (is_conflict (policy_in (body_of w e.koid)) o) status.AlreadyExists ∷ [])
             ≡ answers (policy_refusal_of r.objects o (Ok e))
         passes e at None = refl

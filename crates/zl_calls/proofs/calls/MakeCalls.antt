@@ -2,15 +2,15 @@
 use Rattle.zl_calls.proofs.Common.{Agrees, Bool, CallBy, Entry, Inserts, IsConsistent, IsNamed, IsTrue, Library, List, MakeDoes, MakesOne, Map, None, Objects}
 use Rattle.zl_calls.proofs.Common.{Replies, Site, Some, Values, World, [], answer_if, ap, arith, body_value, false, first_some, get, has_room_in, is_in_job}
 use Rattle.zl_calls.proofs.Common.{is_process, kind_in, length, map, may_get, may_want, nat_le, nat_tests, new_entry, new_object, none-some, not, on_process}
-use Rattle.zl_calls.proofs.Common.{one_value, process_entry, process_value, process_with, refl, refusal, replied, room_refusal, sym, taken, then_some, told_by}
-use Rattle.zl_calls.proofs.Common.{true, wants_memory, with_new, with_object, world_value, ℕ, ◌&&◌, ◌+◌, ◌<◌, ◌^◌, ◌∙◌, ◌∷◌, ◌≡◌}
-use Rattle.zl_code.proofs.Common.{Object as ObjectValue, State as StateValue}
+use Rattle.zl_calls.proofs.Common.{one_value, plain_refusal, process_entry, process_value, process_with, refl, replied, room_refusal, sym, taken, then_some}
+use Rattle.zl_calls.proofs.Common.{told_by, true, wants_memory, with_new, with_object, world_value, ℕ, ◌&&◌, ◌+◌, ◌<◌, ◌^◌, ◌∙◌, ◌∷◌, ◌≡◌}
+use Rattle.zl_code.proofs.Common.{Object as ObjectValue, State}
 use Rattle.zl_rights.specs.declared.status.Status.TheVariants as status
 use Rattle.zl_code.specs.declared.history.Outcome.TheVariants as outcome
 use Rattle.zl_objects.specs.declared.object.Body.{Body}
 use Rattle.zl_objects.specs.declared.object.Body.TheVariants as body
 use Rattle.zl_objects.specs.declared.object.Object.{Object}
-use Rattle.zl_objects.specs.Objects.{queue_of}
+use Rattle.zl_objects.specs.Objects.{queue_held}
 use Rattle.zl_calls.specs.declared.process.Process.{Process}
 use Rattle.zl_calls.proofs.calls.Owned.{IsMaker, own_plain}
 use Rattle.zl_calls.proofs.calls.Answered.{IsWrite, may_get_inserted, replied_inserted}
@@ -84,7 +84,7 @@ module _ {before after : List Process} {r : Objects} {p p2 : Process} (lib : Lib
       → CallBy lib w p.pid s (Values (made ∷ [])) None (outcome.Answered status.Ok) (world_value after r2)
 
   -- what the object is agrees with there being no such process, no message is in it, and it stands in a job that is there
-  module _ (quiet : ((test : StateValue → Bool) → is_process w test n ≡ false) → Agrees w n b) (empty : queue_of b ≡ [])
+  module _ (quiet : ((test : State → Bool) → is_process w test n ≡ false) → Agrees w n b) (empty : queue_held b ≡ [])
       (in_job : IsTrue (is_in_job grown.objects b)) where
     module _ (made : ℕ) (makes : MakesOne b p.table r made p2.table r2) (replies : Replies s status.Ok (made ∷ []) p p2) where
       -- ---- the relation of calls
@@ -108,7 +108,7 @@ module _ {before after : List Process} {r : Objects} {p p2 : Process} (lib : Lib
           (grown_one before [] r (growing_none before r consistent) b quiet empty in_job room.koid refl (made, entry) refl)
           (there_grown before [] r (sound_of before r consistent) b 1))
 
-      pub made_called : IsMaker w p.pid s.request 1 → refusal lib w p.pid s.request ≡ None → Makes made → IsCalled lib before after r r2 p.pid s
+      pub made_called : IsMaker w p.pid s.request 1 → plain_refusal lib w p.pid s.request ≡ None → Makes made → IsCalled lib before after r r2 p.pid s
           (outcome.Answered status.Ok)
       made_called maker unrefused by = record {
         calls = (Values (made ∷ []), rw unrefused (by (may_get_inserted p p2 entry made makes.inserts) made_ends));
@@ -119,8 +119,9 @@ module _ {before after : List Process} {r : Objects} {p p2 : Process} (lib : Lib
 
     -- ---- the step of a call that nothing else refuses
 
-    pub made_done : refusal lib w p.pid s.request ≡ answers (room_refusal p.table.entries n) → wants_memory ≡ may_want s.request → IsMaker w p.pid s.request 1
-        → TellsNothing lib w p.pid s → ((made : ℕ) → Makes made) → IsDoneBy lib before after r r2 p p2 s (told_by one_value) (MakeDoes b)
+    pub made_done : plain_refusal lib w p.pid s.request ≡ answers (room_refusal p.table.entries n) → wants_memory ≡ may_want s.request
+        → IsMaker w p.pid s.request 1 → TellsNothing lib w p.pid s → ((made : ℕ) → Makes made)
+        → IsDoneBy lib before after r r2 p p2 s (told_by one_value) (MakeDoes b)
     made_done refused wanting maker nothing by =
         answered_done lib r2 consistent write s one_value (MakeDoes b) (MakesOne b p.table r) wants_memory (room_refusal p.table.entries n)
         (λ answer acts. acts) refused wanting maker.none nothing

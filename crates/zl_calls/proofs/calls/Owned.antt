@@ -1,9 +1,8 @@
 -- Which values the new handles of a call get, and which come then: those of the lab's own call.
-use Rattle.zl_calls.proofs.Common.{Bool, Entry, Handles, InsertsEach, List, Objects, Request, Site, Some, World, [], ap, eq-eqb, false, get}
-use Rattle.zl_calls.proofs.Common.{has_key, if◌then◌else◌}
-use Rattle.zl_calls.proofs.Common.{is_process, length, lives, map, process_entry, process_value, refl, state_value, subst, sym, taken_handles, true, without}
-use Rattle.zl_calls.proofs.Common.{without_handles, world_value, ℕ, ⊤, ◌∙◌, ◌∷◌, ◌≡◌}
-use Rattle.zl_calls.proofs.Common.{AtCall, CallName, Calls, Library, Outcome, Settles, next_for, same_Some}
+use Rattle.zl_calls.proofs.Common.{Bool, Entry, Handles, InsertsEach, List, Objects, Request, Site, Some, World, [], ap, eq-eqb, false, get, has_key}
+use Rattle.zl_calls.proofs.Common.{if◌then◌else◌, is_process, length, lives, map, process_entry, process_value, refl, state_value, subst, sym, taken_handles}
+use Rattle.zl_calls.proofs.Common.{true, without, without_handles, world_value, ℕ, ⊤, ◌∙◌, ◌∷◌, ◌≡◌, AtCall, CallName, PlainCalls, Library, Outcome, Settles}
+use Rattle.zl_calls.proofs.Common.{next_for, same_Some}
 use Rattle.zl_calls.proofs.processes.Departed.{settled_world}
 use Rattle.zl_code.proofs.Common.{Choice, Process as ProcessValue, Refused, Values, Wants}
 use Rattle.zl_code.specs.CallTable.{choosing, new_handles, receiver_of}
@@ -113,13 +112,13 @@ pub record IsOwnCall (lib : Library) (before after : List Process) (r r2 : Objec
   pub at : Site
   pub next : (q : ProcessValue) → get (map process_entry before) pid ≡ Some q → next_for lib q ≡ AtCall call at
   pub acted : World
-  pub calls : Calls lib (world_value before r) pid at ends acted
+  pub calls : PlainCalls lib (world_value before r) pid at ends acted
   pub own : is_process (world_value before r) lives pid ≡ true → IsOwn before after r pid at.request calls.0
   pub settles : Settles acted (settled_world after r2)
 
 pub own_call_of : (lib : Library) (before after : List Process) (r r2 : Objects) (p : Process) (call : CallName) (s : Site) (ends : Outcome)
     → get (map process_entry before) p.pid ≡ Some (process_value p) → next_for lib (process_value p) ≡ AtCall call s → (acted : World)
-    → (calls : Calls lib (world_value before r) p.pid s ends acted)
+    → (calls : PlainCalls lib (world_value before r) p.pid s ends acted)
     → (is_process (world_value before r) lives p.pid ≡ true → IsOwn before after r p.pid s.request calls.0) → Settles acted (settled_world after r2)
     → IsOwnCall lib before after r r2 p.pid call ends
 own_call_of lib before after r r2 p call s ends there next acted calls own settles = record {

@@ -4,10 +4,10 @@ use Rattle.zl_calls.proofs.Common.{MakesPair, Map, None, Objects, Pair, Replies,
 use Rattle.zl_calls.proofs.Common.{chan_create, cond, count_by, effect, eventpair_create, false, first_some, get, gives_ok, gives_refused, handle_operands}
 use Rattle.zl_calls.proofs.Common.{handles_to, has_koids, has_room, insert_all, length, listed, map, may_choose, may_get_all, may_want, nat_le, nat_tests}
 use Rattle.zl_calls.proofs.Common.{ne_eqb, new_entry, new_handles, new_object, none-some, not, object_value, on_process, operands_fault, pair_refusal}
-use Rattle.zl_calls.proofs.Common.{process_entry, process_value, process_with, put, refl, refusal, remove_all, replied, runs, site, subst, sum_by-cons, sym}
-use Rattle.zl_calls.proofs.Common.{taken, taken_handles, then_some, told_by, true, two_values, wants_memory, with_new, with_object, world_value, ℕ, ◌&&◌, ◌+◌}
-use Rattle.zl_calls.proofs.Common.{◌==◌, ◌^◌, ◌∙◌, ◌∷◌, ◌≡◌, ◌≤◌}
-use Rattle.zl_code.proofs.Common.{Object as ObjectValue}
+use Rattle.zl_calls.proofs.Common.{plain_refusal, process_entry, process_value, process_with, put, refl, remove_all, replied, runs, site, subst, sum_by-cons}
+use Rattle.zl_calls.proofs.Common.{sym, taken, taken_handles, then_some, told_by, true, two_values, wants_memory, with_new, with_object, world_value, ℕ, ◌&&◌}
+use Rattle.zl_calls.proofs.Common.{◌+◌, ◌==◌, ◌^◌, ◌∙◌, ◌∷◌, ◌≡◌, ◌≤◌}
+use Rattle.zl_code.proofs.Common.{Object}
 use Rattle.zl_rights.specs.declared.status.Status.TheVariants as status
 use Rattle.zl_code.specs.declared.history.Outcome.TheVariants as outcome
 use Rattle.zl_objects.specs.declared.object.Body.{Body}
@@ -104,8 +104,8 @@ module _ {before after : List Process} {r : Objects} {p p2 : Process} (lib : Lib
 
       rest : (record with_ends { processes = map process_entry after }) ≡ world_value after r2
       unfolding with_object
-      rest = rw makes.objects (ap (λ (os : Map ObjectValue). record w { processes = map process_entry after; objects = os; next_koid = n + 1 + 1 })
-          (ap (λ (os : Map ObjectValue). put os (n + 1) (object_value (new_object second_end 1))) (grown_seen r first_end 1 consistent.given_objects)
+      rest = rw makes.objects (ap (λ (os : Map Object). record w { processes = map process_entry after; objects = os; next_koid = n + 1 + 1 })
+          (ap (λ (os : Map Object). put os (n + 1) (object_value (new_object second_end 1))) (grown_seen r first_end 1 consistent.given_objects)
           ∙ grown_seen with_first second_end 1 growing.sound.given_objects))
 
       chosen : IsTrue (may_get_all (process_value p) (first ∷ second ∷ []) (two_values made))
@@ -162,7 +162,7 @@ module _ {before after : List Process} {r : Objects} {p p2 : Process} (lib : Lib
             sum_by-cons (λ (h : ℕ × Entry). cond (h.1.koid == j) 1 0) (made.0, first) [],
           ))
 
-      pair_called : IsMaker w p.pid s.request 2 → refusal lib w p.pid s.request ≡ None → Makes made → IsCalled lib before after r r2 p.pid s
+      pair_called : IsMaker w p.pid s.request 2 → plain_refusal lib w p.pid s.request ≡ None → Makes made → IsCalled lib before after r r2 p.pid s
           (outcome.Answered status.Ok)
       pair_called maker unrefused by = record {
         calls = (Values (two_values made), rw unrefused (by chosen both_ends));
@@ -177,7 +177,7 @@ module _ {before after : List Process} {r : Objects} {p p2 : Process} (lib : Lib
 
     -- ---- the step
 
-    pair_done : refusal lib w p.pid s.request ≡ answers (pair_refusal p.table.entries n) → wants_memory ≡ may_want s.request → IsMaker w p.pid s.request 2
+    pair_done : plain_refusal lib w p.pid s.request ≡ answers (pair_refusal p.table.entries n) → wants_memory ≡ may_want s.request → IsMaker w p.pid s.request 2
         → TellsNothing lib w p.pid s → ((made : ℕ × ℕ) → Makes made) → IsDoneBy lib before after r r2 p p2 s (told_by two_values) (MakePairDoes pair)
     pair_done refused wanting maker nothing by =
         answered_done lib r2 consistent write s two_values (MakePairDoes pair) (MakesPair pair p.table r) wants_memory (pair_refusal p.table.entries n)
@@ -193,14 +193,14 @@ module _ {before after : List Process} {r : Objects} {p p2 : Process} (lib : Lib
 
   module _ (consumed destinations : List ℕ) where
     pub chan_create_done : IsDoneBy lib before after r r2 p p2 (site chan_create consumed destinations) (told_by two_values) ChanCreateDoes
-    unfolding refusal handle_operands operands_fault listed has_room has_koids taken_handles remove_all gives_refused may_choose
+    unfolding plain_refusal handle_operands operands_fault listed has_room has_koids taken_handles remove_all gives_refused may_choose
         new_handles effect insert_all gives_ok
     chan_create_done = pair_done (site chan_create consumed destinations) pair.Channel (rw (table_is write r) pair_refused) refl
         (record { none = refl; chosen = refl; made = refl; own = refl }) (λ answer. refl)
         (λ made may ends. (rw (write.there, may) refl, refl, ends))
 
     pub eventpair_done : IsDoneBy lib before after r r2 p p2 (site eventpair_create consumed destinations) (told_by two_values) EventpairCreateDoes
-    unfolding refusal handle_operands operands_fault listed has_room has_koids taken_handles remove_all gives_refused may_choose
+    unfolding plain_refusal handle_operands operands_fault listed has_room has_koids taken_handles remove_all gives_refused may_choose
         new_handles effect insert_all gives_ok
     eventpair_done = pair_done (site eventpair_create consumed destinations) pair.Eventpair (rw (table_is write r) pair_refused) refl
         (record { none = refl; chosen = refl; made = refl; own = refl }) (λ answer. refl)

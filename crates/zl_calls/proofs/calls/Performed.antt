@@ -1,11 +1,11 @@
 -- Any call: it blocks, or what it does is a step up to where processes wake; and it leaves its process its pid.
-use Rattle.zl_calls.proofs.Common.{Acted, Action, Acts, AtCall, Awaited, Blocks, CallName, Err, Handles, IsConsistent, KeepSleepers, Library, List, None}
-use Rattle.zl_calls.proofs.Common.{Objects, Ok, Option, Outcome, PortCancelDoes, Ready, Request, Result, Site, Some, Status, WaitAsyncDoes, action_of, answers}
-use Rattle.zl_calls.proofs.Common.{ap, awaited_by, calls_at, chan_create, chan_read_etc, chan_write, close, dup, event_create, eventpair_create, exits, false}
-use Rattle.zl_calls.proofs.Common.{false≢true, inl, inr, is_blocked, is_blocking, job_create, job_set_policy, looks_at_waits, next_for, next_looks, port_cancel}
-use Rattle.zl_calls.proofs.Common.{port_create, port_poll, port_queue, port_wait, process_exit, process_value, reaches, refl, refusal, replace, signal}
-use Rattle.zl_calls.proofs.Common.{signal_peer, site, state_value, subst, sym, task_kill, true, true≢false, wait_async, wait_one, wait_poll, waits, world_value}
-use Rattle.zl_calls.proofs.Common.{ℕ, ⊤, ◌∙◌, ◌≡◌, ◌⊎◌}
+use Rattle.zl_calls.proofs.Common.{Acted, Action, ActsHere, AtCall, Awaited, Blocks, CallName, Err, Handles, IsConsistent, KeepSleepers, Library, List, None}
+use Rattle.zl_calls.proofs.Common.{Objects, Ok, Option, Outcome, PortCancelDoes, Ready, Request, Result, Site, Some, Status, WaitAsyncDoes, action_asked}
+use Rattle.zl_calls.proofs.Common.{answers, ap, awaited_by, calls_at, chan_create, chan_read_etc, chan_write, close, dup, event_create, eventpair_create, exits}
+use Rattle.zl_calls.proofs.Common.{false, false≢true, inl, inr, is_blocked, is_blocking, job_create, job_set_policy, looks_at_waits, next_for, next_looks}
+use Rattle.zl_calls.proofs.Common.{plain_refusal, port_cancel, port_create, port_poll, port_queue, port_wait, process_exit, process_value, reaches, refl}
+use Rattle.zl_calls.proofs.Common.{replace, signal, signal_peer, site, state_value, subst, sym, task_kill, true, true≢false, wait_async, wait_one, wait_poll}
+use Rattle.zl_calls.proofs.Common.{waits, world_value, ℕ, ⊤, ◌∙◌, ◌≡◌, ◌⊎◌}
 use Rattle.zl_calls.specs.declared.process.Process.{Process}
 use Rattle.zl_calls.proofs.calls.Answered.{IsWrite}
 use Rattle.zl_calls.proofs.calls.DoneCalls.{IsCalledAmong, IsDone}
@@ -30,7 +30,7 @@ NeverBlocks (waits A told Does Awaits) = ⊥
 NeverBlocks _ = ⊤
 
 module _ (p p2 : Process) (r r2 : Objects) (o : Outcome) where
-  answered_on : (action : Action) (s : Site) → NeverBlocks action → Acts action s p r o p2 r2 → is_blocking o ≡ false
+  answered_on : (action : Action) (s : Site) → NeverBlocks action → ActsHere action s p r o p2 r2 → is_blocking o ≡ false
   answered_on (answers A told Does) s never acts = ap is_blocking acts.ends
   answered_on (waits A told Does Awaits) s never acts = absurd never
   answered_on (exits code) s never acts = ap is_blocking acts.ends
@@ -39,7 +39,7 @@ module _ (p p2 : Process) (r r2 : Objects) (o : Outcome) where
   -- a call that blocks, from what the definitions say of it
   asleep : (lib : Library) (before : List Process) (call : CallName) {Awaits : Handles → Objects → Awaited → Type 0} (s : Site)
       → next_for lib (process_value p) ≡ AtCall call s → (blocks : Blocks Awaits s p r o p2 r2)
-      → refusal lib (world_value before r) p.pid s.request ≡ None → awaited_by (world_value before r) p.pid s.request ≡ Some blocks.awaited
+      → plain_refusal lib (world_value before r) p.pid s.request ≡ None → awaited_by (world_value before r) p.pid s.request ≡ Some blocks.awaited
       → IsAsleep lib before r r2 p p2 call o
   asleep lib before call s next blocks passes is_awaited = record {
     at = s;
@@ -64,7 +64,7 @@ module _ {before after : List Process} {r : Objects} {p p2 : Process} (lib : Lib
   module _ (goes : is_blocking o ≡ false) where
     by_request : (request : Request) (consumed destinations : List ℕ) → looks_at_waits request ≡ false
         → next_for lib (process_value p) ≡ AtCall call (site request consumed destinations)
-        → Acts (action_of p.pid request) (site request consumed destinations) p r o p2 r2 → IsDone lib before after r r2 p.pid call o
+        → ActsHere (action_asked p.pid request) (site request consumed destinations) p r o p2 r2 → IsDone lib before after r r2 p.pid call o
     by_request (close h) c d plain next acts = close_done lib r2 consistent write h c d ready call next o acts
     by_request (dup h asked) c d plain next acts = dup_done lib r2 consistent write h asked c d ready call next o acts
     by_request (replace h asked) c d plain next acts = replace_done lib r2 consistent write h asked c d ready call next o acts
@@ -99,7 +99,7 @@ module _ {before after : List Process} {r : Objects} {p p2 : Process} (lib : Lib
 
   -- it blocks, or else it doesn't
   asleep_by : (request : Request) (consumed destinations : List ℕ) → next_for lib (process_value p) ≡ AtCall call (site request consumed destinations)
-      → Acts (action_of p.pid request) (site request consumed destinations) p r o p2 r2 → (is_blocking o ≡ false) ⊎ IsAsleep lib before r r2 p p2 call o
+      → ActsHere (action_asked p.pid request) (site request consumed destinations) p r o p2 r2 → (is_blocking o ≡ false) ⊎ IsAsleep lib before r r2 p p2 call o
   asleep_by (wait_one h mask) c d next (inl answered) = inl (ap is_blocking answered.ends)
   asleep_by (wait_one h mask) c d next (inr blocks) =
       let x = blocks.awaits.watched in
@@ -114,7 +114,7 @@ module _ {before after : List Process} {r : Objects} {p p2 : Process} (lib : Lib
       (port_passes lib r2 consistent write port c d x blocks.awaits.is_port)
       (port_waits lib r2 consistent write port c d x blocks.awaits.is_port blocks.awaits.none
       ∙ ap (λ (a : Awaited). Some a) (sym blocks.awaits.is_awaited)))
-  asleep_by request c d next acts = inl (answered_on p p2 r r2 o (action_of p.pid request) (site request c d) tt acts)
+  asleep_by request c d next acts = inl (answered_on p p2 r r2 o (action_asked p.pid request) (site request c d) tt acts)
 
   pub acted_asleep : (at : Option Site) → next_for lib (process_value p) ≡ calls_at call at → Acted at p r o p2 r2
       → (is_blocking o ≡ false) ⊎ IsAsleep lib before r r2 p p2 call o
@@ -136,7 +136,7 @@ module _ {before after : List Process} {r : Objects} {p p2 : Process} (lib : Lib
     (ready : state_value p.state ≡ Ready) (call : CallName) (o : Outcome) where
   looks_by : (request : Request) (consumed destinations : List ℕ) → looks_at_waits request ≡ true
       → next_for lib (process_value p) ≡ AtCall call (site request consumed destinations)
-      → Acts (action_of p.pid request) (site request consumed destinations) p r o p2 r2 → Looks lib before after r r2 p call o
+      → ActsHere (action_asked p.pid request) (site request consumed destinations) p r o p2 r2 → Looks lib before after r r2 p call o
   looks_by (wait_async h port key mask) c d looks next acts = record {
     at = site (wait_async h port key mask) c d;
     next = next;
@@ -170,7 +170,7 @@ module _ {before after : List Process} {r : Objects} {p p2 : Process} (lib : Lib
 -- ---- the process
 
 module _ (p p2 : Process) (r r2 : Objects) (o : Outcome) where
-  by_action : (action : Action) (s : Site) → Acts action s p r o p2 r2 → p2.pid ≡ p.pid
+  by_action : (action : Action) (s : Site) → ActsHere action s p r o p2 r2 → p2.pid ≡ p.pid
   by_action (answers A told Does) s acts = ap (λ (q : Process). q.pid) acts.replied
   by_action (waits A told Does Awaits) s (inl answered) = ap (λ (q : Process). q.pid) answered.replied
   by_action (waits A told Does Awaits) s (inr blocks) = ap (λ (q : Process). q.pid) blocks.process
@@ -179,10 +179,10 @@ module _ (p p2 : Process) (r r2 : Objects) (o : Outcome) where
 
   pub same_pid : (at : Option Site) → Acted at p r o p2 r2 → p2.pid ≡ p.pid
   same_pid None acts = absurd acts
-  same_pid (Some s) acts = by_action (action_of p.pid s.request) s acts
+  same_pid (Some s) acts = by_action (action_asked p.pid s.request) s acts
 
   -- a process that was ready still is, or has ended, unless the call blocks
-  state_by : (action : Action) (s : Site) → Acts action s p r o p2 r2 → is_blocking o ≡ false → is_blocked (state_value p.state) ≡ false
+  state_by : (action : Action) (s : Site) → ActsHere action s p r o p2 r2 → is_blocking o ≡ false → is_blocked (state_value p.state) ≡ false
       → is_blocked (state_value p2.state) ≡ false
   state_by (answers A told Does) s acts goes unblocked = ap (λ (q : Process). is_blocked (state_value q.state)) acts.replied ∙ unblocked
   state_by (waits A told Does Awaits) s (inl answered) goes unblocked = ap (λ (q : Process). is_blocked (state_value q.state)) answered.replied ∙ unblocked
@@ -193,4 +193,4 @@ module _ (p p2 : Process) (r r2 : Objects) (o : Outcome) where
   pub still_unblocked : (at : Option Site) → Acted at p r o p2 r2 → is_blocking o ≡ false → is_blocked (state_value p.state) ≡ false
       → is_blocked (state_value p2.state) ≡ false
   still_unblocked None acts goes unblocked = absurd acts
-  still_unblocked (Some s) acts goes unblocked = state_by (action_of p.pid s.request) s acts goes unblocked
+  still_unblocked (Some s) acts goes unblocked = state_by (action_asked p.pid s.request) s acts goes unblocked

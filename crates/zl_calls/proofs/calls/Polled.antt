@@ -1,6 +1,6 @@
 -- What is taken from a port: its first packet, or nothing, and then nothing has changed.
 use Rattle.zl_calls.proofs.Common.{Does, Entry, Err, Handles, IsRefusedBy, List, Map, None, Objects, Ok, Packet, READ, Some, TakesPacket, [], ap, at_port}
-use Rattle.zl_calls.proofs.Common.{cases_Bool, changed_port, changing_port, drop, eqb-true, get, inl, inr, is_empty, none-some, packets_in, packets_of}
+use Rattle.zl_calls.proofs.Common.{cases_Bool, changed_port, changing_port, drop, eqb-true, get, inl, inr, is_empty, none-some, packets_found, packets_of}
 use Rattle.zl_calls.proofs.Common.{poll_refusal, port_at, refl, slice_get, sym, then_some, update, wants_nothing, without_front, ℕ, ◌==◌, ◌∙◌, ◌∷◌, ◌≡◌}
 use Rattle.zl_rights.specs.declared.status.Status.TheVariants as status
 use Rattle.zl_objects.specs.declared.object.Body.{Body}
@@ -16,7 +16,7 @@ none_left_behind (body.Port port) none = by_packets port.packets refl none
     by_packets (x ∷ xs) is h = absurd (none-some x (sym h))
 none_left_behind _ none = refl
 
-unpopped : (m : Map Object) (k : ℕ) → slice_get (packets_in (get m k)) 0 ≡ None → update m k (at_port without_front) ≡ m
+unpopped : (m : Map Object) (k : ℕ) → slice_get (packets_found (get m k)) 0 ≡ None → update m k (at_port without_front) ≡ m
 unfolding get update
 unpopped [] k none = refl
 unpopped (e ∷ m) k none = elim (cases_Bool (e.0 == k)) as (λ _. update (e ∷ m) k (at_port without_front) ≡ e ∷ m) [
@@ -29,11 +29,11 @@ unpopped (e ∷ m) k none = elim (cases_Bool (e.0 == k)) as (λ _. update (e ∷
 -- the handle at the value names the port, from which the first packet was taken
 module _ (t : Handles) (r r2 : Objects) (value : ℕ) (port : Entry) (is_port : port_at t.entries value READ ≡ Ok port)
     (rest : r2 ≡ changing_port r port.koid without_front) where
-  pub packet_polled : (packet : Packet) → slice_get (packets_in (get r.objects port.koid)) 0 ≡ Some packet
+  pub packet_polled : (packet : Packet) → slice_get (packets_found (get r.objects port.koid)) 0 ≡ Some packet
       → Does (TakesPacket t r value) wants_nothing (poll_refusal t.entries r.objects value) t r (Ok packet) t r2
   packet_polled packet first = record {
     ok = record {
-      unrefused = rw is_port (by_packets (packets_in (get r.objects port.koid)) first);
+      unrefused = rw is_port (by_packets (packets_found (get r.objects port.koid)) first);
       port = port;
       is_port = is_port;
       first = first;
@@ -49,11 +49,11 @@ module _ (t : Handles) (r r2 : Objects) (value : ℕ) (port : Entry) (is_port : 
       by_packets [] h = absurd (none-some packet h)
       by_packets (x ∷ xs) h = refl
 
-  pub nothing_polled : slice_get (packets_in (get r.objects port.koid)) 0 ≡ None
+  pub nothing_polled : slice_get (packets_found (get r.objects port.koid)) 0 ≡ None
       → Does (TakesPacket t r value) wants_nothing (poll_refusal t.entries r.objects value) t r (Err status.TimedOut) t r2
   nothing_polled none = record {
     ok = tt;
-    err = rw is_port (by_packets (packets_in (get r.objects port.koid)) none);
+    err = rw is_port (by_packets (packets_found (get r.objects port.koid)) none);
     same_table = refl;
     same_objects = rest ∙ ap (λ (os : Map Object). record r { objects = os }) (unpopped r.objects port.koid none);
   }

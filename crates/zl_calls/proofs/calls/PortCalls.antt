@@ -2,15 +2,15 @@
 use Rattle.zl_calls.proofs.Common.{Entry, IsConsistent, Library, List, None, Objects, Ok, Packet, PacketAt, Port, READ, Replies, Site, Some, TakesPacket}
 use Rattle.zl_calls.proofs.Common.{Values, WRITE, World, [], ap, awaited_by, body_of, drop, effect, first_values, get, gives_ok, gives_refused, handle_operands}
 use Rattle.zl_calls.proofs.Common.{has_koids, has_room, insert_all, is_empty, is_full, listed, may_choose, new_handles, new_port, no_value, none-some}
-use Rattle.zl_calls.proofs.Common.{object_at, on_object, one_value, operands_fault, packet_awaited, packet_taken, packet_values, packets_at, packets_in}
-use Rattle.zl_calls.proofs.Common.{poll_refusal, port_at, port_create, port_poll, port_queue, port_wait, refl, refusal, remove_all, replied, result_err, runs}
-use Rattle.zl_calls.proofs.Common.{same_Some, site, slice_get, sym, taken_handles, told_by, wants_memory, wants_nothing, with_packet, without_front}
+use Rattle.zl_calls.proofs.Common.{object_at, on_object, one_value, operands_fault, packet_awaited, packet_taken, packet_values, packets_at, packets_found}
+use Rattle.zl_calls.proofs.Common.{plain_refusal, poll_refusal, port_at, port_create, port_poll, port_queue, port_wait, refl, remove_all, replied, result_err}
+use Rattle.zl_calls.proofs.Common.{runs, same_Some, site, slice_get, sym, taken_handles, told_by, wants_memory, wants_nothing, with_packet, without_front}
 use Rattle.zl_calls.proofs.Common.{world_value, ℕ, ⊤, ◌++◌, ◌∙◌, ◌∷◌, ◌≡◌}
 use Rattle.zl_rights.specs.declared.kind.Kind.TheVariants as kind
 use Rattle.zl_rights.specs.declared.status.Status.TheVariants as status
 use Rattle.zl_port.specs.Packets.{user_packet}
 use Rattle.zl_code.specs.declared.history.Outcome.TheVariants as outcome
-use Rattle.zl_code.specs.Waiting.{packets_in as packets_seen}
+use Rattle.zl_code.specs.Waiting.{packets_in}
 use Rattle.zl_calls.specs.declared.process.Process.{Process}
 use Rattle.zl_calls.specs.calls.Port.{PortCreateDoes, PortPollDoes, PortQueueDoes, PortWaitDoes, QueuesPacket, queue_refusal}
 use Rattle.zl_calls.proofs.calls.Owned.{own_plain}
@@ -33,7 +33,7 @@ module _ {before after : List Process} {r : Objects} {p p2 : Process} (lib : Lib
     create_site = site port_create consumed destinations
 
     pub port_create_done : IsDoneBy lib before after r r2 p p2 create_site (told_by one_value) PortCreateDoes
-    unfolding refusal handle_operands operands_fault listed has_room has_koids taken_handles remove_all gives_refused may_choose
+    unfolding plain_refusal handle_operands operands_fault listed has_room has_koids taken_handles remove_all gives_refused may_choose
         new_handles effect insert_all gives_ok
     port_create_done = made_done lib r2 consistent write create_site new_port (λ not. not runs) refl refl
         (rw (table_is write r) (room_refused p.table.entries r.next_koid)) refl
@@ -46,12 +46,12 @@ module _ {before after : List Process} {r : Objects} {p p2 : Process} (lib : Lib
     abbrev queue_site : Site
     queue_site = site (port_queue port key value) consumed destinations
 
-    refused_queue : refusal lib w p.pid queue_site.request ≡ answers (queue_refusal p.table.entries r.objects port)
+    refused_queue : plain_refusal lib w p.pid queue_site.request ≡ answers (queue_refusal p.table.entries r.objects port)
     unfolding handle_operands operands_fault listed
     refused_queue =
         first_looked_up lib w p.pid p.table.entries (table_is write r) queue_site.request
         (queue_refusal p.table.entries r.objects port) port (kind.Port ∷ []) WRITE None refl (λ s is. rw is refl)
-        (λ e is at. rw (is, table_is write r, at, packets_there r.objects e.koid) (one_test (is_full (packets_in (get r.objects e.koid))) status.ShouldWait))
+        (λ e is at. rw (is, table_is write r, at, packets_there r.objects e.koid) (one_test (is_full (packets_found (get r.objects e.koid))) status.ShouldWait))
 
     queue_called : (done : ⊤) → QueuesPacket p.table r port key value p2.table r2 → Replies queue_site status.Ok [] p p2
         → IsCalled lib before after r r2 p.pid queue_site (outcome.Answered status.Ok)
@@ -91,11 +91,11 @@ module _ {before after : List Process} {r : Objects} {p p2 : Process} (lib : Lib
     koid_same : object_at w p.pid port ≡ k
     koid_same = rw (table_is write r, is_found (get p.table.entries port) (kind.Port ∷ []) READ takes_one.port takes_one.is_port) refl
 
-    packets_same : packets_at w p.pid port ≡ packets_in (get r.objects k)
-    packets_same = ap (λ (j : ℕ). packets_seen (body_of w j)) koid_same ∙ packets_there r.objects k
+    packets_same : packets_at w p.pid port ≡ packets_found (get r.objects k)
+    packets_same = ap (λ (j : ℕ). packets_in (body_of w j)) koid_same ∙ packets_there r.objects k
 
     first_told : first_values (packets_at w p.pid port) ≡ packet_values packet
-    first_told = ap first_values packets_same ∙ by_packets (packets_in (get r.objects k)) takes_one.first
+    first_told = ap first_values packets_same ∙ by_packets (packets_found (get r.objects k)) takes_one.first
       where
         by_packets : (xs : List Packet) → slice_get xs 0 ≡ Some packet → first_values xs ≡ packet_values packet
         by_packets [] is = absurd (none-some packet is)
@@ -103,7 +103,7 @@ module _ {before after : List Process} {r : Objects} {p p2 : Process} (lib : Lib
 
     -- there is nothing to wait for
     none_awaited : packet_awaited (object_at w p.pid port) (packets_at w p.pid port) ≡ None
-    none_awaited = ap (packet_awaited (object_at w p.pid port)) packets_same ∙ by_packets (packets_in (get r.objects k)) takes_one.first
+    none_awaited = ap (packet_awaited (object_at w p.pid port)) packets_same ∙ by_packets (packets_found (get r.objects k)) takes_one.first
       where
         by_packets : (xs : List Packet) → slice_get xs 0 ≡ Some packet → packet_awaited (object_at w p.pid port) xs ≡ None
         by_packets [] is = absurd (none-some packet is)
@@ -127,12 +127,12 @@ module _ {before after : List Process} {r : Objects} {p p2 : Process} (lib : Lib
     abbrev poll_site : Site
     poll_site = site (port_poll port) consumed destinations
 
-    refused_poll : refusal lib w p.pid poll_site.request ≡ answers (poll_refusal p.table.entries r.objects port)
+    refused_poll : plain_refusal lib w p.pid poll_site.request ≡ answers (poll_refusal p.table.entries r.objects port)
     unfolding handle_operands operands_fault listed
     refused_poll =
         first_looked_up lib w p.pid p.table.entries (table_is write r) poll_site.request (poll_refusal p.table.entries r.objects port)
         port (kind.Port ∷ []) READ None refl (λ s is. rw is refl)
-        (λ e is at. rw (is, table_is write r, at, packets_there r.objects e.koid) (one_test (is_empty (packets_in (get r.objects e.koid))) status.TimedOut))
+        (λ e is at. rw (is, table_is write r, at, packets_there r.objects e.koid) (one_test (is_empty (packets_found (get r.objects e.koid))) status.TimedOut))
 
     poll_called : (packet : Packet) → TakesPacket p.table r port packet p2.table r2 → Replies poll_site status.Ok (packet_values packet) p p2
         → IsCalled lib before after r r2 p.pid poll_site (outcome.Answered status.Ok)
@@ -156,7 +156,7 @@ module _ {before after : List Process} {r : Objects} {p p2 : Process} (lib : Lib
     abbrev wait_site : Site
     wait_site = site (port_wait port) consumed destinations
 
-    refused_wait : refusal lib w p.pid wait_site.request ≡ answers (result_err (port_at p.table.entries port READ))
+    refused_wait : plain_refusal lib w p.pid wait_site.request ≡ answers (result_err (port_at p.table.entries port READ))
     unfolding handle_operands operands_fault listed
     refused_wait =
         first_looked_up lib w p.pid p.table.entries (table_is write r) wait_site.request (result_err (port_at p.table.entries port READ))
@@ -184,11 +184,11 @@ module _ {before after : List Process} {r : Objects} {p p2 : Process} (lib : Lib
 
     -- it isn't refused, where the port is there; and where that has no packet, it waits for one
     module _ (x : Entry) (is_port : port_at p.table.entries port READ ≡ Ok x) where
-      pub port_passes : refusal lib w p.pid wait_site.request ≡ None
+      pub port_passes : plain_refusal lib w p.pid wait_site.request ≡ None
       port_passes = refused_wait ∙ rw is_port refl
 
-      pub port_waits : slice_get (packets_in (get r.objects x.koid)) 0 ≡ None → awaited_by w p.pid (port_wait port) ≡ Some (PacketAt x.koid)
-      port_waits none = rw (named, packets_there r.objects x.koid) (by_packets (packets_in (get r.objects x.koid)) none)
+      pub port_waits : slice_get (packets_found (get r.objects x.koid)) 0 ≡ None → awaited_by w p.pid (port_wait port) ≡ Some (PacketAt x.koid)
+      port_waits none = rw (named, packets_there r.objects x.koid) (by_packets (packets_found (get r.objects x.koid)) none)
         where
           named : object_at w p.pid port ≡ x.koid
           named = rw (table_is write r, is_found (get p.table.entries port) (kind.Port ∷ []) READ x is_port) refl

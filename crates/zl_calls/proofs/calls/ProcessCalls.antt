@@ -1,9 +1,9 @@
 -- The calls on processes: the end of a process, by process_exit or because it is stuck, to a step up to where processes wake.
-use Rattle.zl_calls.proofs.Common.{AtCall, CallName, Calls, Ended, Ends, Entry, IsActed, IsConsistent, IsNamed, IsStuck, IsTable, Library, List, Map, Objects}
-use Rattle.zl_calls.proofs.Common.{Ready, Releases, STUCK, Settles, Site, Some, Values, World, [], ap, arith, count_by, effect, ended, false≢true, get}
-use Rattle.zl_calls.proofs.Common.{handle_operands, insert_all, listed, may_choose, new_handles, next_for, none-some, on_process, operands_fault, process_exit}
-use Rattle.zl_calls.proofs.Common.{process_value, refl, refusal, releases_then, remove_all, signed_word, site, state_value, stopping, subst, taken_handles}
-use Rattle.zl_calls.proofs.Common.{world_value, ℕ, ℤ, ◌+◌, ◌==◌, ◌∙◌, ◌≡◌}
+use Rattle.zl_calls.proofs.Common.{AtCall, CallName, Ended, Ends, Entry, IsActed, IsConsistent, IsNamed, IsStuck, IsTable, Library, List, Map, Objects}
+use Rattle.zl_calls.proofs.Common.{PlainCalls, Ready, Releases, STUCK, Settles, Site, Some, Values, World, [], ap, arith, count_by, effect, ended, false≢true}
+use Rattle.zl_calls.proofs.Common.{get, handle_operands, insert_all, listed, may_choose, new_handles, next_for, none-some, on_process, operands_fault}
+use Rattle.zl_calls.proofs.Common.{plain_refusal, process_exit, process_value, refl, releases_then, remove_all, signed_word, site, state_value, stopping, subst}
+use Rattle.zl_calls.proofs.Common.{taken_handles, world_value, ℕ, ℤ, ◌+◌, ◌==◌, ◌∙◌, ◌≡◌}
 use Rattle.zl_code.proofs.Common.{Process as ProcessValue}
 use Rattle.zl_code.specs.declared.history.Outcome.TheVariants as outcome
 use Rattle.zl_code.specs.declared.history.TraceItem.TheVariants as item
@@ -102,9 +102,9 @@ module _ {before after : List Process} {r : Objects} {p p2 : Process} (lib : Lib
     abbrev s : Site
     s = site (process_exit n) consumed destinations
 
-    exit_calls : (c : Calls lib w p.pid s (outcome.Ended code) (world_value after r)) ×
+    exit_calls : (c : PlainCalls lib w p.pid s (outcome.Ended code) (world_value after r)) ×
         (is_process w lives p.pid ≡ true → IsOwn before after r p.pid s.request c.0)
-    unfolding refusal handle_operands operands_fault listed may_choose new_handles insert_all remove_all taken_handles effect coming
+    unfolding plain_refusal handle_operands operands_fault listed may_choose new_handles insert_all remove_all taken_handles effect coming
     exit_calls = (
       (Values [], (rw write.there refl, ap outcome.Ended is, ended_is ∙ ap (ended w p.pid) is)),
       λ living.

@@ -1,24 +1,24 @@
 -- The call chan_read_etc, from its table and objects to a step.
-use Rattle.zl_calls.proofs.Common.{All, All-head, All-nil, All-tail, AreNamed, Bool, ChanReadDoes, Entry, Err, IsConsistent, IsFaultBy, IsNamed, IsSound}
+use Rattle.zl_calls.proofs.Common.{All, All-head, All-nil, All-tail, AreNamed, AreSound, Bool, ChanReadDoes, Entry, Err, IsConsistent, IsFaultBy, IsNamed}
 use Rattle.zl_calls.proofs.Common.{IsTold, IsTrue, Library, List, Map, Message, None, Objects, Ok, Option, Outcome, READ, ReadFault, ReadsMessage, Received}
 use Rattle.zl_calls.proofs.Common.{Refused, Result, Site, Some, Status, Values, Wants, World, [], answer_if, ap, arith, bits, body_after_read, body_in, body_of}
 use Rattle.zl_calls.proofs.Common.{body_value, chan_read_etc, count_by, cpu_answered, drop, effect, false, false≢true, first_handles, first_some, front_at}
 use Rattle.zl_calls.proofs.Common.{front_by, front_in, get, get_seen, gives_ok, gives_refused, granted, handle_operands, handles_to, has_room, if◌then◌else◌}
-use Rattle.zl_calls.proofs.Common.{insert_all, is_empty, is_some, length, listed, map, may_choose, message_read, nat_le, nat_tests, new_handles}
-use Rattle.zl_calls.proofs.Common.{none-some, not, object_at, object_entry, object_value, on_object, on_process, operands_fault, option_map, peer_at}
-use Rattle.zl_calls.proofs.Common.{process_entry, process_value, process_with, process_with_all, queue_in, queued_to, refl, refusal, remove_all, replied, site}
+use Rattle.zl_calls.proofs.Common.{insert_all, is_empty, is_some, length, listed, map, may_choose, message_read, nat_le, nat_tests, new_handles, none-some, not}
+use Rattle.zl_calls.proofs.Common.{object_at, object_entry, object_value, on_object, on_process, operands_fault, option_map, peer_here, plain_refusal}
+use Rattle.zl_calls.proofs.Common.{process_entry, process_value, process_with, process_with_all, queue_found, queued_to, refl, remove_all, replied, site}
 use Rattle.zl_calls.proofs.Common.{slice_get, storing, subst, sum_by, sum_by-cons, sum_fewer, sym, taken, taken_handles, takes, told_of, told_read, true}
 use Rattle.zl_calls.proofs.Common.{update, wants_memory, with_effect, with_stored, within, world_value, ℕ, ◌&&◌, ◌+◌, ◌==◌, ◌∙◌, ◌∷◌, ◌≡◌, ◌≤◌}
 use Rattle.zl_code.proofs.Common.{Object as ObjectValue, Process as ProcessValue}
 use Rattle.zl_rights.specs.declared.kind.Kind.TheVariants as kind
 use Rattle.zl_rights.specs.declared.status.Status.TheVariants as status
 use Rattle.zl_code.specs.declared.history.Outcome.TheVariants as outcome
-use Rattle.zl_code.specs.Tests.{has_place_for, queue_at, queue_in as queue_seen_in, sizes_of}
+use Rattle.zl_code.specs.Tests.{has_place_for, queue_at, queue_in, sizes_of}
 use Rattle.zl_channel.specs.Queue.{front_handles}
 use Rattle.zl_objects.specs.declared.object.Body.{Body}
 use Rattle.zl_objects.specs.declared.object.Body.TheVariants as body
 use Rattle.zl_objects.specs.declared.object.Object.{Object}
-use Rattle.zl_objects.specs.Objects.{queue_of, received, received_body, receiving}
+use Rattle.zl_objects.specs.Objects.{queue_held, received, received_body, receiving}
 use Rattle.zl_calls.specs.declared.process.Process.{Process}
 use Rattle.zl_calls.specs.declared.calls.channel.reading.ReadFault.TheVariants as fault
 use Rattle.zl_calls.proofs.calls.Owned.{IsMaker, own_plain, own_refused}
@@ -44,10 +44,10 @@ why (Err (fault.TooSmall bytes handles)) = Some status.BufferTooSmall
 why (Err (fault.Refused s)) = Some s
 
 -- what is to be read is the same for the definitions
-queue_there : (os : Map Object) (k : ℕ) → queue_seen_in (body_in (get (map object_entry os) k)) ≡ queue_in (get os k)
+queue_there : (os : Map Object) (k : ℕ) → queue_in (body_in (get (map object_entry os) k)) ≡ queue_found (get os k)
 queue_there os k = rw (get_seen os k) (by_object (get os k))
   where
-    by_object : (o : Option Object) → queue_seen_in (body_in (option_map object_value o)) ≡ queue_in o
+    by_object : (o : Option Object) → queue_in (body_in (option_map object_value o)) ≡ queue_found o
     by_object None = refl
     by_object (Some o) = queue_seen o.body
 
@@ -74,13 +74,13 @@ record IsFrontOf (entries : Map Entry) (objects : Map Object) (c end : ℕ) : Ty
   pub entry : Entry
   pub there : get entries c ≡ Some entry
   pub koid : entry.koid ≡ end
-  pub room : length entries + length (front_handles (queue_in (get objects end))) ≤ 1024
+  pub room : length entries + length (front_handles (queue_found (get objects end))) ≤ 1024
 
 -- the sizes that are told are those of the first message at the end that the handle names
 record IsTooSmall (entries : Map Entry) (objects : Map Object) (c bytes handles : ℕ) : Type 0 where
   pub entry : Entry
   pub there : get entries c ≡ Some entry
-  pub sizes : sizes_of (queue_in (get objects entry.koid)) ≡ bytes ∷ handles ∷ []
+  pub sizes : sizes_of (queue_found (get objects entry.koid)) ≡ bytes ∷ handles ∷ []
 
 -- with this status the sizes of a message are told
 abbrev tells_sizes : Status → Bool
@@ -96,7 +96,7 @@ IsKnown entries objects c (Err (fault.Refused s)) = tells_sizes s ≡ false
 front_known : (entries : Map Entry) (objects : Map Object) (c room places : ℕ) → IsKnown entries objects c (front_at entries objects c room places)
 front_known entries objects c room places = by_entry (get entries c) refl
   where
-    by_tests : (e : Entry) (m : Message) (ms : List Message) → get entries c ≡ Some e → queue_in (get objects e.koid) ≡ m ∷ ms
+    by_tests : (e : Entry) (m : Message) (ms : List Message) → get entries c ≡ Some e → queue_found (get objects e.koid) ≡ m ∷ ms
         → (a b : Bool) → nat_le (length entries + length m.handles) 1024 ≡ b
         → IsKnown entries objects c (if not a then Err (fault.TooSmall (length m.bytes) (length m.handles))
         else (if not b then Err (fault.Refused status.NoResources) else Ok e.koid))
@@ -104,7 +104,7 @@ front_known entries objects c room places = by_entry (get entries c) refl
     by_tests e m ms there at true false fits = refl
     by_tests e m ms there at true true fits = record { entry = e; there = there; koid = refl; room = rw at (grind (arith, nat_tests, fits)) }
 
-    by_messages : (e : Entry) → get entries c ≡ Some e → (peer : Bool) (queue : List Message) → queue_in (get objects e.koid) ≡ queue
+    by_messages : (e : Entry) → get entries c ≡ Some e → (peer : Bool) (queue : List Message) → queue_found (get objects e.koid) ≡ queue
         → IsKnown entries objects c (front_in (length entries) peer room places e.koid queue)
     by_messages e there true [] at = refl
     by_messages e there false [] at = refl
@@ -112,7 +112,7 @@ front_known entries objects c room places = by_entry (get entries c) refl
 
     by_rights : (e : Entry) → get entries c ≡ Some e → (a b : Bool)
         → IsKnown entries objects c (front_by entries objects room places (if a then (if b then Ok e else Err status.AccessDenied) else Err status.WrongType))
-    by_rights e there true true = by_messages e there (is_some (peer_at objects e.koid)) (queue_in (get objects e.koid)) refl
+    by_rights e there true true = by_messages e there (is_some (peer_here objects e.koid)) (queue_found (get objects e.koid)) refl
     by_rights e there true false = refl
     by_rights e there false b = refl
 
@@ -124,18 +124,18 @@ front_known entries objects c room places = by_entry (get entries c) refl
 record IsFirstAt (objects : Map Object) (k : ℕ) (m : Message) : Type 0 where
   pub object : Object
   pub at : get objects k ≡ Some object
-  pub queue : queue_of object.body ≡ m ∷ drop 1 (queue_of object.body)
+  pub queue : queue_held object.body ≡ m ∷ drop 1 (queue_held object.body)
 
-first_at : (objects : Map Object) (k : ℕ) (m : Message) → slice_get (queue_in (get objects k)) 0 ≡ Some m → IsFirstAt objects k m
+first_at : (objects : Map Object) (k : ℕ) (m : Message) → slice_get (queue_found (get objects k)) 0 ≡ Some m → IsFirstAt objects k m
 first_at objects k m is = by_object (get objects k) refl is
   where
     by_messages : (queue : List Message) → slice_get queue 0 ≡ Some m → queue ≡ m ∷ drop 1 queue
     by_messages [] read = absurd (none-some m read)
     by_messages (x ∷ xs) read = let same : x ≡ m = cc in ap (λ (y : Message). y ∷ xs) same
 
-    by_object : (o : Option Object) → get objects k ≡ o → slice_get (queue_in o) 0 ≡ Some m → IsFirstAt objects k m
+    by_object : (o : Option Object) → get objects k ≡ o → slice_get (queue_found o) 0 ≡ Some m → IsFirstAt objects k m
     by_object None at read = absurd (none-some m read)
-    by_object (Some o) at read = record { object = o; at = at; queue = by_messages (queue_of o.body) read }
+    by_object (Some o) at read = record { object = o; at = at; queue = by_messages (queue_held o.body) read }
 
 -- ---- a message less in a queue
 
@@ -162,16 +162,16 @@ module _ (os : Map Object) (k : ℕ) (m : Message) (first : IsFirstAt os k m) wh
       (sum_fewer (λ x. queued_to j x.1.body) (map object_entry os) k (count_by (λ (e : Entry). e.koid == j) m.handles) (object_value first.object) message_read
       (get_seen os k ∙ rw first.at refl) (by_body first.object.body first.queue))
     where
-      by_body : (b : Body) → queue_of b ≡ m ∷ drop 1 (queue_of b)
+      by_body : (b : Body) → queue_held b ≡ m ∷ drop 1 (queue_held b)
           → queued_to j (body_value b) ≡ queued_to j (body_after_read (body_value b)) + count_by (λ (e : Entry). e.koid == j) m.handles
       by_body (body.ChannelEnd peer queue) h =
           let all = ap (λ (q : List Message). sum_by (λ (x : Message). count_by (λ (e : Entry). e.koid == j) x.handles) q) h in
           omega (arith, all, sum_by-cons (λ (x : Message). count_by (λ (e : Entry). e.koid == j) x.handles) m (drop 1 queue))
       by_body _ h = absurd cc
 
-  message_named : (named : (e : Entry) → Type 0) → All (λ (x : Message). All named x.handles) (queue_of first.object.body) → All named m.handles
+  message_named : (named : (e : Entry) → Type 0) → All (λ (x : Message). All named x.handles) (queue_held first.object.body) → All named m.handles
   message_named named all =
-      All-head (λ (x : Message). All named x.handles) m (drop 1 (queue_of first.object.body))
+      All-head (λ (x : Message). All named x.handles) m (drop 1 (queue_held first.object.body))
       (subst (λ (q : List Message). All (λ (x : Message). All named x.handles) q) first.queue all)
 
 -- ---- a world with handles and bytes more
@@ -211,13 +211,13 @@ module _ {before after : List Process} {r : Objects} {p p2 : Process} (lib : Lib
   known : (found : Result ℕ ReadFault) → front_now ≡ found → IsKnown p.table.entries r.objects c found
   known found is = subst (IsKnown p.table.entries r.objects c) is (front_known p.table.entries r.objects c room places)
 
-  refused : refusal lib w p.pid (chan_read_etc c address room places) ≡ answers (why front_now)
+  refused : plain_refusal lib w p.pid (chan_read_etc c address room places) ≡ answers (why front_now)
   unfolding handle_operands operands_fault listed has_room
   refused =
       first_looked_up lib w p.pid p.table.entries (table_is write r) (chan_read_etc c address room places) (why front_now)
       c (kind.Channel ∷ []) READ None refl (λ s is. rw is refl)
       (λ e is at. rw (is, table_is write r, at, queue_there r.objects e.koid, peer_there r consistent.no_zero e.koid)
-      (by_queue (length p.table.entries) room places e.koid (is_some (peer_at r.objects e.koid)) (queue_in (get r.objects e.koid))))
+      (by_queue (length p.table.entries) room places e.koid (is_some (peer_here r.objects e.koid)) (queue_found (get r.objects e.koid))))
 
   -- ---- the message was read
 
@@ -241,8 +241,8 @@ module _ {before after : List Process} {r : Objects} {p p2 : Process} (lib : Lib
     koid_same : object_at w p.pid c ≡ k
     koid_same = rw (table_is write r, front.there) front.koid
 
-    queue_same : queue_at w p.pid c ≡ m ∷ drop 1 (queue_of first.object.body)
-    queue_same = ap (λ (j : ℕ). queue_seen_in (body_of w j)) koid_same ∙ (queue_there r.objects k ∙ (ap queue_in first.at ∙ first.queue))
+    queue_same : queue_at w p.pid c ≡ m ∷ drop 1 (queue_held first.object.body)
+    queue_same = ap (λ (j : ℕ). queue_in (body_of w j)) koid_same ∙ (queue_there r.objects k ∙ (ap queue_found first.at ∙ first.queue))
 
     state_same : p2.state ≡ p.state
     state_same = ap (λ (q : Process). q.state) told
@@ -309,7 +309,7 @@ module _ {before after : List Process} {r : Objects} {p p2 : Process} (lib : Lib
     later [] all = all
     later (x ∷ xs) all = All-tail (λ (y : Message). All (IsNamed r.objects) y.handles) x xs all
 
-    queue_named : (b : Body) → AreNamed r.objects (queue_of b) → AreNamed changed.objects (queue_of (requeued_body (drop 1) b))
+    queue_named : (b : Body) → AreNamed r.objects (queue_held b) → AreNamed changed.objects (queue_held (requeued_body (drop 1) b))
     queue_named (body.ChannelEnd peer queue) old = still_named r.objects changed.objects named_now (drop 1 queue) (later queue old)
     queue_named _ old = All-nil (λ (x : Message). All (IsNamed changed.objects) x.handles)
 
@@ -324,7 +324,7 @@ module _ {before after : List Process} {r : Objects} {p p2 : Process} (lib : Lib
         more_queued before (receiving r k) r j (naming j m.handles) (queues_received r.objects k m first j) in
         omega (arith, less, ap (λ (x : Objects). handles_to (world_value before x) j) (same_receiving r k), numbered_naming j 0 m.handles)
 
-    sound_changed : IsSound before moved changed
+    sound_changed : AreSound before moved changed
     sound_changed = requeued_sound (drop 1) before r k [] moved (sound_of before r consistent)
         (λ o at. queue_named o.body (consistent.queued k o at)) read_counts
 
@@ -388,7 +388,7 @@ module _ {before after : List Process} {r : Objects} {p p2 : Process} (lib : Lib
     sizes_same bytes handles is =
         let small : IsTooSmall p.table.entries r.objects c bytes handles = known (Err (fault.TooSmall bytes handles)) is in
         let koid : object_at w p.pid c ≡ small.entry.koid = rw (table_is write r, small.there) refl in
-        ap (λ (j : ℕ). sizes_of (queue_seen_in (body_of w j))) koid ∙ (ap sizes_of (queue_there r.objects small.entry.koid) ∙ small.sizes)
+        ap (λ (j : ℕ). sizes_of (queue_in (body_of w j))) koid ∙ (ap sizes_of (queue_there r.objects small.entry.koid) ∙ small.sizes)
 
     nothing_told : (s : Status) → front_now ≡ Err (fault.Refused s) → gives_refused w p.pid (chan_read_etc c address room places) s ≡ []
     unfolding gives_refused

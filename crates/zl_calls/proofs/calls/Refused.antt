@@ -1,8 +1,8 @@
 -- The answers other than OK, where no policy has a say: they follow from the caller's table and from counts.
-use Rattle.zl_calls.proofs.Common.{Bool, Calls, Entry, Err, IsRefusedBy, IsTrue, Kind, Library, List, Map, None, Ok, Option, Outcome, Refused, Request, Result}
-use Rattle.zl_calls.proofs.Common.{Site, Some, Status, Wants, World, [], answer_if, ap, bits, false, false≢true, first_some, get, gives_refused, granted}
-use Rattle.zl_calls.proofs.Common.{handle_operands, if◌then◌else◌, listed, looked_up, may_want, not, operands_fault, option_or, refl, refusal, replied}
-use Rattle.zl_calls.proofs.Common.{result_err, subst, sym, table_of, taken, takes, then_some, true, wants_nothing, within, ℕ, ◌∙◌, ◌∷◌, ◌≡◌}
+use Rattle.zl_calls.proofs.Common.{Bool, Entry, Err, IsRefusedBy, IsTrue, Kind, Library, List, Map, None, Ok, Option, Outcome, PlainCalls, Refused, Request}
+use Rattle.zl_calls.proofs.Common.{Result, Site, Some, Status, Wants, World, [], answer_if, ap, bits, false, false≢true, first_some, get, gives_refused}
+use Rattle.zl_calls.proofs.Common.{granted, handle_operands, if◌then◌else◌, listed, looked_up, may_want, not, operands_fault, option_or, plain_refusal, refl}
+use Rattle.zl_calls.proofs.Common.{replied, result_err, subst, sym, table_of, taken, takes, then_some, true, wants_nothing, within, ℕ, ◌∙◌, ◌∷◌, ◌≡◌}
 use Rattle.zl_rights.specs.declared.status.Status.TheVariants as status
 use Rattle.zl_code.specs.declared.history.Outcome.TheVariants as outcome
 use Rattle.zl_calls.proofs.Common.{Objects}
@@ -64,8 +64,8 @@ module _ (lib : Library) (w : World) (p : ℕ) (entries : Map Entry) (table : ta
       → operands_fault entries [] (handle_operands request) ≡ option_or (result_err (looked_up entries h kinds needed)) others
       → ((s : Status) → looked_up entries h kinds needed ≡ Err s → o ≡ Some s)
       → ((e : Entry) → looked_up entries h kinds needed ≡ Ok e → get entries h ≡ Some e → first_some (answers others ∷ listed lib w p request) ≡ answers o)
-      → refusal lib w p request ≡ answers o
-  unfolding refusal
+      → plain_refusal lib w p request ≡ answers o
+  unfolding plain_refusal
   first_looked_up h kinds needed others fault fails found =
       (λ i. first_some (answers (operands_fault (table i) [] (handle_operands request)) ∷ listed lib w p request))
       ∙ (ap (λ (f : Option Status). first_some (answers f ∷ listed lib w p request)) fault
@@ -76,8 +76,8 @@ module _ (lib : Library) (w : World) (p : ℕ) (entries : Map Entry) (table : ta
   pub any_looked_up : (h needed : ℕ) → operands_fault entries [] (handle_operands request) ≡ option_or (result_err (looked_up entries h [] needed)) None
       → (get entries h ≡ None → o ≡ Some status.BadHandle) → ((e : Entry) → get entries h ≡ Some e
       → first_some (answer_if (not (within needed (bits e.rights))) status.AccessDenied ∷ listed lib w p request) ≡ answers o)
-      → refusal lib w p request ≡ answers o
-  unfolding refusal
+      → plain_refusal lib w p request ≡ answers o
+  unfolding plain_refusal
   any_looked_up h needed fault none found =
       (λ i. first_some (answers (operands_fault (table i) [] (handle_operands request)) ∷ listed lib w p request))
       ∙ (ap (λ (f : Option Status). first_some (answers f ∷ listed lib w p request)) fault ∙ by_entry (get entries h) refl)
@@ -99,7 +99,7 @@ module _ (lib : Library) (w : World) (p : ℕ) (entries : Map Entry) (table : ta
       → ((s : Status) → looked_up entries h kinds needed ≡ Err s → o ≡ Some s)
       → ((e : Entry) (s : Status) → looked_up entries h kinds needed ≡ Ok e → looked_up entries j others more ≡ Err s → o ≡ Some s)
       → ((e f : Entry) → looked_up entries h kinds needed ≡ Ok e → looked_up entries j others more ≡ Ok f → get entries h ≡ Some e → get entries j ≡ Some f
-      → first_some (listed lib w p request) ≡ answers o) → refusal lib w p request ≡ answers o
+      → first_some (listed lib w p request) ≡ answers o) → plain_refusal lib w p request ≡ answers o
   both_looked_up h j kinds others needed more fault fails also found =
       first_looked_up h kinds needed (option_or (result_err (looked_up entries j others more)) None) fault fails
       (λ e is there. behind_look_up (looked_up entries j others more) None o (listed lib w p request) (λ s. also e s is)
@@ -116,8 +116,8 @@ module _ (lib : Library) (w : World) (p : ℕ) (s : Site) where
   abbrev pub TellsNothing : Type 0
   TellsNothing = (answer : Status) → gives_refused w p s.request answer ≡ []
 
-  pub refused_calls : (wants : Status → Bool) (o : Option Status) (answer : Status) (w2 : World) → TellsNothing → refusal lib w p s.request ≡ answers o
-      → wants ≡ may_want s.request → IsRefusedBy wants o answer → w2 ≡ replied (taken w p s) p s answer [] → Calls lib w p s (outcome.Answered answer) w2
+  pub refused_calls : (wants : Status → Bool) (o : Option Status) (answer : Status) (w2 : World) → TellsNothing → plain_refusal lib w p s.request ≡ answers o
+      → wants ≡ may_want s.request → IsRefusedBy wants o answer → w2 ≡ replied (taken w p s) p s answer [] → PlainCalls lib w p s (outcome.Answered answer) w2
   refused_calls wants (Some r) answer w2 nothing refused may by is =
       (Refused, rw refused (ap (λ (x : Status). outcome.Answered x) by, is ∙ rw (by, nothing r) refl))
   refused_calls wants None answer w2 nothing refused may by is =
@@ -126,7 +126,7 @@ module _ (lib : Library) (w : World) (p : ℕ) (s : Site) where
   -- the choice is the lab's own, where the values are those that are left
   pub refused_own : (before after : List Process) (r : Objects) (wants : Status → Bool) (o : Option Status) (answer : Status) (w2 : World)
       (nothing : TellsNothing)
-      (refused : refusal lib w p s.request ≡ answers o) (may : wants ≡ may_want s.request) (by : IsRefusedBy wants o answer)
+      (refused : plain_refusal lib w p s.request ≡ answers o) (may : wants ≡ may_want s.request) (by : IsRefusedBy wants o answer)
       (is : w2 ≡ replied (taken w p s) p s answer []) → FreeBy after (left_free (own_in before r) p s.request)
       → IsOwn before after r p s.request (refused_calls wants o answer w2 nothing refused may by is).0
   unfolding refused_calls

@@ -1,9 +1,9 @@
 -- What the calls on a port have in common: what packets are there, and what it means that those of one port change.
 use Rattle.zl_calls.proofs.Common.{IsConsistent, List, Map, None, Objects, Option, Packet, Port, Replies, Site, Some, World, ap, at_port, body_in, body_value}
-use Rattle.zl_calls.proofs.Common.{changing_port, get, get_seen, map, object_entry, object_value, on_object, option_map, packets_in, packets_of, refl, repacked}
-use Rattle.zl_calls.proofs.Common.{replied, world_value, ℕ, ◌≡◌}
+use Rattle.zl_calls.proofs.Common.{changing_port, get, get_seen, map, object_entry, object_value, on_object, option_map, packets_found, packets_of, refl}
+use Rattle.zl_calls.proofs.Common.{repacked, replied, world_value, ℕ, ◌≡◌}
 use Rattle.zl_rights.specs.declared.status.Status.TheVariants as status
-use Rattle.zl_code.specs.Waiting.{packets_in as packets_seen}
+use Rattle.zl_code.specs.Waiting.{packets_in}
 use Rattle.zl_objects.specs.declared.object.Body.{Body}
 use Rattle.zl_objects.specs.declared.object.Body.TheVariants as body
 use Rattle.zl_objects.specs.declared.object.Object.{Object}
@@ -13,14 +13,14 @@ use Rattle.zl_calls.proofs.objects.Packed.{packed_consistent, packed_seen}
 use Rattle.zl_calls.proofs.processes.Written.{refusal_keeps}
 
 -- the packets at an object are the same for the definitions
-pub packets_there : (os : Map Object) (k : ℕ) → packets_seen (body_in (get (map object_entry os) k)) ≡ packets_in (get os k)
+pub packets_there : (os : Map Object) (k : ℕ) → packets_in (body_in (get (map object_entry os) k)) ≡ packets_found (get os k)
 packets_there os k = rw (get_seen os k) (by_object (get os k))
   where
-    by_body : (b : Body) → packets_seen (Some (body_value b)) ≡ packets_of b
+    by_body : (b : Body) → packets_in (Some (body_value b)) ≡ packets_of b
     by_body (body.Port port) = refl
     by_body _ = refl
 
-    by_object : (o : Option Object) → packets_seen (body_in (option_map object_value o)) ≡ packets_in o
+    by_object : (o : Option Object) → packets_in (body_in (option_map object_value o)) ≡ packets_found o
     by_object None = refl
     by_object (Some o) = by_body o.body
 

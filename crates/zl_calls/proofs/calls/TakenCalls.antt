@@ -1,12 +1,12 @@
 -- A call that takes handles: they leave the table of its caller, and close where the call is refused.
 use Rattle.zl_rights.specs.Values.{given_back}
-use Rattle.zl_calls.proofs.Common.{AtCall, Bool, CallName, DoesTaking, Entry, Err, Handles, IsConsistent, IsNamed, IsSound, IsTable, IsTrue, Library, List, Map}
-use Rattle.zl_calls.proofs.Common.{None, Objects, Ok, Option, Outcome, Ready, Releases, Replies, Result, Site, Some, Status, World, [], ap, arith, cases_Bool}
-use Rattle.zl_calls.proofs.Common.{cond, count_by, cpu_answered, eq-eqb, eqb-true, false, false≢true, get, get-put, get-without, has_key, if◌then◌else◌, inl}
-use Rattle.zl_calls.proofs.Common.{inr, is_some, is_sorted, koids_of, length-without, map, may_want, nat_cmp, next_for, none-some, on_process, option_to_list}
-use Rattle.zl_calls.proofs.Common.{process_entry, process_value, process_without, put, refl, refusal, remove_all, replied, sorted_put, sorted_without}
-use Rattle.zl_calls.proofs.Common.{state_value, status_of, subst, sum_by-cons, sym, taken_from, taken_handles, true, update, values_of, without, without_handle}
-use Rattle.zl_calls.proofs.Common.{without_handles, world_value, ℕ, ◌++◌, ◌+◌, ◌==◌, ◌∙◌, ◌∷◌, ◌≡◌, ◌⊎◌}
+use Rattle.zl_calls.proofs.Common.{AreSound, AtCall, Bool, CallName, DoesTaking, Entry, Err, Handles, IsConsistent, IsNamed, IsTable, IsTrue, Library, List}
+use Rattle.zl_calls.proofs.Common.{Map, None, Objects, Ok, Option, Outcome, Ready, Releases, Replies, Result, Site, Some, Status, World, [], ap, arith}
+use Rattle.zl_calls.proofs.Common.{cases_Bool, cond, count_by, cpu_answered, eq-eqb, eqb-true, false, false≢true, get, get-put, get-without, has_key}
+use Rattle.zl_calls.proofs.Common.{if◌then◌else◌, inl, inr, is_some, is_sorted, koids_in, length-without, map, may_want, nat_cmp, next_for, none-some}
+use Rattle.zl_calls.proofs.Common.{on_process, option_to_list, plain_refusal, process_entry, process_value, process_without, put, refl, remove_all, replied}
+use Rattle.zl_calls.proofs.Common.{sorted_put, sorted_without, state_value, status_of, subst, sum_by-cons, sym, taken_from, taken_handles, true, update}
+use Rattle.zl_calls.proofs.Common.{values_of, without, without_handle, without_handles, world_value, ℕ, ◌++◌, ◌+◌, ◌==◌, ◌∙◌, ◌∷◌, ◌≡◌, ◌⊎◌}
 use Rattle.zl_code.proofs.Common.{Process as ProcessValue}
 use Rattle.zl_rights.specs.declared.status.Status.TheVariants as status
 use Rattle.zl_code.specs.declared.history.Outcome.TheVariants as outcome
@@ -139,19 +139,19 @@ fewer_left test (h ∷ hs) t table = by_entry (get t.entries h) refl (fewer_left
 
 -- the handles that left, in their order, name what those name by their values
 pub same_koids : (k : ℕ) (hs : List ℕ) (t : Handles)
-    → count_by (λ j. j == k) (koids_of (taken_from t hs)) ≡ count_by (λ (x : ℕ × Entry). x.1.koid == k) (taken_map t hs)
+    → count_by (λ j. j == k) (koids_in (taken_from t hs)) ≡ count_by (λ (x : ℕ × Entry). x.1.koid == k) (taken_map t hs)
 same_koids k [] t = refl
 same_koids k (h ∷ hs) t = by_entry (get t.entries h) (same_koids k hs (without_handle t h))
   where
-    by_entry : (o : Option Entry) → count_by (λ j. j == k) (koids_of (taken_from (without_handle t h) hs))
+    by_entry : (o : Option Entry) → count_by (λ j. j == k) (koids_in (taken_from (without_handle t h) hs))
         ≡ count_by (λ (x : ℕ × Entry). x.1.koid == k) (taken_map (without_handle t h) hs)
-        → count_by (λ j. j == k) (koids_of (option_to_list o ++ taken_from (without_handle t h) hs))
+        → count_by (λ j. j == k) (koids_in (option_to_list o ++ taken_from (without_handle t h) hs))
         ≡ count_by (λ (x : ℕ × Entry). x.1.koid == k) (put_if o h (taken_map (without_handle t h) hs))
     by_entry None rest = rest
     by_entry (Some e) rest = omega (
       arith,
       rest,
-      sum_by-cons (λ (j : ℕ). cond (j == k) 1 0) e.koid (koids_of (taken_from (without_handle t h) hs)),
+      sum_by-cons (λ (j : ℕ). cond (j == k) 1 0) e.koid (koids_in (taken_from (without_handle t h) hs)),
       count_put (λ (x : ℕ × Entry). x.1.koid == k) (taken_map (without_handle t h) hs) h e (not_twice hs t h),
     )
 
@@ -224,14 +224,14 @@ module _ {before after : List Process} {p p2 : Process} (write : IsWrite before 
     fewer j = fewer_left (λ x. x.1.koid == j) hs p.table old_table ∙ rw table refl
 
     -- they have left the table, and count still
-    pub taken_sound : IsSound after (taken_map p.table hs) r
+    pub taken_sound : AreSound after (taken_map p.table hs) r
     taken_sound = sound_after write r consistent (taken_map p.table hs) new_table fewer (λ v e at. named_before v e (was_there v e at)) same_state
 
     -- the handles close
-    pub closed : (r2 : Objects) → Releases (koids_of (taken_from p.table hs)) [] r r2 → IsSettled after r r2
+    pub closed : (r2 : Objects) → Releases (koids_in (taken_from p.table hs)) [] r r2 → IsSettled after r r2
     closed r2 releases =
         settled after (taken_map p.table hs) r taken_sound (sorted_taken hs p.table) (λ v e at. named_before v e (taken_there hs p.table v e at))
-        (koids_of (taken_from p.table hs)) (λ k. same_koids k hs p.table) r2 releases.cascades (releases.keeps [] consistent.kept) releases.koids
+        (koids_in (taken_from p.table hs)) (λ k. same_koids k hs p.table) r2 releases.cascades (releases.keeps [] consistent.kept) releases.koids
 
 -- ---- the step
 
@@ -244,7 +244,7 @@ module _ {before after : List Process} {r : Objects} {p p2 : Process} (lib : Lib
   w = world_value before r
 
   module _ {A : Type 0} (values : A → List ℕ) (Done : A → Handles → Objects → Type 0) (wants : Status → Bool) (o : Option Status)
-      (refused : refusal lib w p.pid s.request ≡ answers o) (wanting : wants ≡ may_want s.request) (nothing : TellsNothing lib w p.pid s)
+      (refused : plain_refusal lib w p.pid s.request ≡ answers o) (wanting : wants ≡ may_want s.request) (nothing : TellsNothing lib w p.pid s)
       (done : (x : A) → Done x p2.table r2 → Replies s status.Ok (values x) p p2 → IsCalled lib before after r r2 p.pid s (outcome.Answered status.Ok)) where
     refused_done : (answer : Status) → DoesTaking Done wants o hs p.table r (Err answer) p2.table r2 → Replies s answer [] p p2
         → IsDone lib before after r r2 p.pid call (outcome.Answered answer)

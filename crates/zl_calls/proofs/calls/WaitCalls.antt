@@ -2,9 +2,9 @@
 use Rattle.zl_calls.proofs.Common.{Bool, Entry, Err, IsConsistent, IsTold, Library, List, Map, None, Objects, Ok, Option, Outcome, Refused, Replies, Result}
 use Rattle.zl_calls.proofs.Common.{SignalOf, Signals, Site, Some, Status, Values, WAIT, World, [], active_at, answer_if, any, ap, awaited_by, bits, effect}
 use Rattle.zl_calls.proofs.Common.{false, false≢true, first_some, get, gives_ok, gives_refused, granted, handle_operands, if◌then◌else◌, insert_all}
-use Rattle.zl_calls.proofs.Common.{is_active_at, is_mask, koid_in, listed, looked_up, may_choose, meets, new_handles, not, object_at, operands_fault, refl}
-use Rattle.zl_calls.proofs.Common.{refusal, remove_all, replied, result_err, signals_at, site, subst, sym, taken_handles, told_by, true, wait_one, wait_poll}
-use Rattle.zl_calls.proofs.Common.{wants_nothing, within, world_value, ℕ, ◌∙◌, ◌∷◌, ◌≡◌}
+use Rattle.zl_calls.proofs.Common.{is_active_at, is_mask, koid_in, listed, looked_up, may_choose, meets, new_handles, not, object_at, operands_fault}
+use Rattle.zl_calls.proofs.Common.{plain_refusal, refl, remove_all, replied, result_err, signals_at, site, subst, sym, taken_handles, told_by, true, wait_one}
+use Rattle.zl_calls.proofs.Common.{wait_poll, wants_nothing, within, world_value, ℕ, ◌∙◌, ◌∷◌, ◌≡◌}
 use Rattle.zl_rights.specs.declared.status.Status.TheVariants as status
 use Rattle.zl_code.specs.declared.history.Outcome.TheVariants as outcome
 use Rattle.zl_objects.specs.declared.object.Object.{Object}
@@ -106,7 +106,7 @@ module _ {before after : List Process} {r : Objects} {p p2 : Process} (lib : Lib
   abbrev one_site : Site
   one_site = site (wait_one h mask) consumed destinations
 
-  refused_one : refusal lib w p.pid (wait_one h mask) ≡ answers (result_err (watched_at p.table.entries r.objects h mask))
+  refused_one : plain_refusal lib w p.pid (wait_one h mask) ≡ answers (result_err (watched_at p.table.entries r.objects h mask))
   unfolding handle_operands operands_fault listed
   refused_one =
       first_looked_up lib w p.pid p.table.entries (table_is write r) (wait_one h mask)
@@ -129,7 +129,7 @@ module _ {before after : List Process} {r : Objects} {p p2 : Process} (lib : Lib
     met_so = rw (active_seen, (watched_is p.table.entries r.objects h mask x seen).mask_is) refl
 
     -- it isn't refused
-    pub one_passes : refusal lib w p.pid (wait_one h mask) ≡ None
+    pub one_passes : plain_refusal lib w p.pid (wait_one h mask) ≡ None
     one_passes = refused_one ∙ rw seen refl
 
     -- where no signal of the mask is active, it waits for one
@@ -169,7 +169,7 @@ module _ {before after : List Process} {r : Objects} {p p2 : Process} (lib : Lib
   abbrev polled : Result Signals PollFault
   polled = polled_at p.table.entries r.objects h mask
 
-  refused_now : refusal lib w p.pid (wait_poll h mask) ≡ answers (why polled)
+  refused_now : plain_refusal lib w p.pid (wait_poll h mask) ≡ answers (why polled)
   unfolding handle_operands operands_fault listed
   refused_now =
       first_looked_up lib w p.pid p.table.entries (table_is write r) (wait_poll h mask) (why polled) h any WAIT None refl (λ s is. rw is refl)

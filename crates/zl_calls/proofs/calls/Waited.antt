@@ -1,7 +1,7 @@
 -- What port_wait does in each of its cases: it is refused, it takes a packet, or it blocks.
-use Rattle.zl_calls.proofs.Common.{Acts, Blocked, Entry, Err, IsTold, List, None, Objects, Ok, Outcome, Packet, PacketAt, READ, Result, Site, Some, Status}
-use Rattle.zl_calls.proofs.Common.{TakesPacket, [], action_of, answered_in, ap, changing_port, get, inl, inr, packet_values, packets_in, port_at, port_wait}
-use Rattle.zl_calls.proofs.Common.{refl, site, slice_get, state_value, subst, sym, told_by, without_front, ℕ, ◌<◌, ◌^◌, ◌∙◌, ◌≡◌}
+use Rattle.zl_calls.proofs.Common.{ActsHere, Blocked, Entry, Err, IsTold, List, None, Objects, Ok, Outcome, Packet, PacketAt, READ, Result, Site, Some, Status}
+use Rattle.zl_calls.proofs.Common.{TakesPacket, [], action_asked, answered_in, ap, changing_port, get, inl, inr, packet_values, packets_found, port_at}
+use Rattle.zl_calls.proofs.Common.{port_wait, refl, site, slice_get, state_value, subst, sym, told_by, without_front, ℕ, ◌<◌, ◌^◌, ◌∙◌, ◌≡◌}
 use Rattle.zl_code.specs.declared.history.Outcome.TheVariants as outcome
 use Rattle.zl_rights.specs.declared.status.Status.TheVariants as status
 use Rattle.zl_calls.specs.declared.process.Process.{Process}
@@ -19,7 +19,7 @@ module _ (value : ℕ) (destinations : List ℕ) (p : Process) (r : Objects) whe
   told_so p2 (Err refused) is = is ∙ λ i. record (answered_in p destinations packet_values (Err refused)) { table = sym (ap (λ (q : Process). q.table) is) i }
 
   pub port_refuses : (refused : Status) → port_at p.table.entries value READ ≡ Err refused → (o : Outcome) (p2 : Process) → o ≡ outcome.Answered refused
-      → p2 ≡ answered_in p destinations packet_values (Err refused) → Acts (action_of p.pid (port_wait value)) waiting_site p r o p2 r
+      → p2 ≡ answered_in p destinations packet_values (Err refused) → ActsHere (action_asked p.pid (port_wait value)) waiting_site p r o p2 r
   port_refuses refused no_port o p2 ends is = inl (record {
     answer = Err refused;
     acts = record { ok = tt; err = rw no_port refl; same_table = ap (λ (q : Process). q.table) is; same_objects = refl };
@@ -28,9 +28,9 @@ module _ (value : ℕ) (destinations : List ℕ) (p : Process) (r : Objects) whe
   })
 
   module _ (r2 : Objects) (port : Entry) (is_port : port_at p.table.entries value READ ≡ Ok port) (rest : r2 ≡ changing_port r port.koid without_front) where
-    pub packet_comes : (packet : Packet) → slice_get (packets_in (get r.objects port.koid)) 0 ≡ Some packet → (o : Outcome) (p2 : Process)
+    pub packet_comes : (packet : Packet) → slice_get (packets_found (get r.objects port.koid)) 0 ≡ Some packet → (o : Outcome) (p2 : Process)
         → o ≡ outcome.Answered status.Ok → p2 ≡ answered_in p destinations packet_values (Ok packet)
-        → Acts (action_of p.pid (port_wait value)) waiting_site p r o p2 r2
+        → ActsHere (action_asked p.pid (port_wait value)) waiting_site p r o p2 r2
     packet_comes packet first o p2 ends is = inl (record {
       answer = Ok packet;
       acts = record {
@@ -44,9 +44,9 @@ module _ (value : ℕ) (destinations : List ℕ) (p : Process) (r : Objects) whe
       replied = told_so p2 (Ok packet) is;
     })
 
-    pub port_blocks : slice_get (packets_in (get r.objects port.koid)) 0 ≡ None → p.cpu.counter < 2 ^ 32 → (s : State)
+    pub port_blocks : slice_get (packets_found (get r.objects port.koid)) 0 ≡ None → p.cpu.counter < 2 ^ 32 → (s : State)
         → state_value s ≡ Blocked (PacketAt port.koid) destinations
-        → Acts (action_of p.pid (port_wait value)) waiting_site p r outcome.Blocked (record p { state = s }) r2
+        → ActsHere (action_asked p.pid (port_wait value)) waiting_site p r outcome.Blocked (record p { state = s }) r2
     port_blocks none within s is = inr (record {
       awaited = PacketAt port.koid;
       awaits = record { port = port; is_port = is_port; none = none; is_awaited = refl };

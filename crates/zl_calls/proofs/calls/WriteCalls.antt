@@ -1,25 +1,25 @@
 -- The call chan_write, from its table and objects to a step.
 use Rattle.zl_rights.specs.Values.{given_back}
-use Rattle.zl_calls.proofs.Common.{All, All-append, All-cons, All-nil, AreNamed, Bool, ChanWriteDoes, Entry, Handles, IsConsistent, IsNamed, IsSound, IsTrue}
+use Rattle.zl_calls.proofs.Common.{All, All-append, All-cons, All-nil, AreNamed, AreSound, Bool, ChanWriteDoes, Entry, Handles, IsConsistent, IsNamed, IsTrue}
 use Rattle.zl_calls.proofs.Common.{Library, List, Map, Message, None, Objects, Ok, Operand, Option, Replies, Site, Some, Status, TRANSFER, Values, WRITE, World}
 use Rattle.zl_calls.proofs.Common.{WritesMessage, [], answer_if, any, ap, arith, body_in, body_value, body_with_message, cases_Bool, chan_write, cond, consumes}
 use Rattle.zl_calls.proofs.Common.{contains, count_by, effect, eq-eqb, false, false≢true, fault_of, filter, first_some, flat_map, get, get-update, get-without}
 use Rattle.zl_calls.proofs.Common.{get_seen, gives_ok, gives_refused, handle_operands, handles_to, has_key, has_seen, if◌then◌else◌, inl, inr, insert_all}
-use Rattle.zl_calls.proofs.Common.{is_some, kind_of, koids_of, length, list_any-append, list_refusal, listed, looked_up, map, may_choose, message_sent}
+use Rattle.zl_calls.proofs.Common.{is_some, kind_of, koids_in, length, list_any-append, list_refusal, listed, looked_up, map, may_choose, message_sent}
 use Rattle.zl_calls.proofs.Common.{new_handles, no_value, none-some, not, object_entry, object_value, on_object, on_process, operand_by, operands_fault}
-use Rattle.zl_calls.proofs.Common.{option_map, option_or, option_to_list, or_parts, peer_at, process_entry, process_value, queued_to, refl, refusal, remove_all}
-use Rattle.zl_calls.proofs.Common.{replied, result_err, same_Some, site, sum_by-append, sum_by-cons, sym, taken, taken_from, taken_handles, takes, then_some}
-use Rattle.zl_calls.proofs.Common.{told_by, true, update, wants_memory, with_effect, without, without_handle, world_value, write_refusal, ℕ, ◌++◌, ◌+◌, ◌<◌}
-use Rattle.zl_calls.proofs.Common.{◌==◌, ◌||◌, ◌∙◌, ◌∷◌, ◌≡◌, ◌⊎◌}
+use Rattle.zl_calls.proofs.Common.{option_map, option_or, option_to_list, or_parts, peer_here, plain_refusal, process_entry, process_value, queued_to, refl}
+use Rattle.zl_calls.proofs.Common.{remove_all, replied, result_err, same_Some, site, sum_by-append, sum_by-cons, sym, taken, taken_from, taken_handles, takes}
+use Rattle.zl_calls.proofs.Common.{then_some, told_by, true, update, wants_memory, with_effect, without, without_handle, world_value, write_refusal, ℕ, ◌++◌}
+use Rattle.zl_calls.proofs.Common.{◌+◌, ◌<◌, ◌==◌, ◌||◌, ◌∙◌, ◌∷◌, ◌≡◌, ◌⊎◌}
 use Rattle.zl_code.proofs.Common.{Object as ObjectValue}
 use Rattle.zl_rights.specs.declared.kind.Kind.TheVariants as kind
 use Rattle.zl_rights.specs.declared.status.Status.TheVariants as status
 use Rattle.zl_code.specs.declared.history.Outcome.TheVariants as outcome
-use Rattle.zl_code.specs.Tests.{entries_at, is_too_large, peer_at as peer_named, peer_in as peer_seen}
+use Rattle.zl_code.specs.Tests.{entries_at, is_too_large, peer_at, peer_in}
 use Rattle.zl_objects.specs.declared.object.Body.{Body}
 use Rattle.zl_objects.specs.declared.object.Body.TheVariants as body
 use Rattle.zl_objects.specs.declared.object.Object.{Object}
-use Rattle.zl_objects.specs.Objects.{if_there, is_channel_body, is_channel_in, peer_in, peer_of, queue_of, reader_at, reader_of, sending, sent, sent_body}
+use Rattle.zl_objects.specs.Objects.{if_there, is_channel_body, is_channel_in, peer_found, peer_of, queue_held, reader_at, reader_of, sending, sent, sent_body}
 use Rattle.zl_calls.specs.declared.process.Process.{Process}
 use Rattle.zl_calls.proofs.Common.{without_handles}
 use Rattle.zl_calls.proofs.calls.Owned.{own_entered}
@@ -50,37 +50,37 @@ module _ (r : Objects) (no_zero : (k : ℕ) → IsTrue (has_key r.objects k) →
   there_or_not false k = refl
 
   -- the peer of an end is there for the definitions where it is here
-  pub peer_there : (k : ℕ) → has_key (map object_entry r.objects) (peer_seen (body_in (get (map object_entry r.objects) k))) ≡ is_some (peer_at r.objects k)
-  peer_there k = rw (has_seen r.objects (peer_seen (body_in (get (map object_entry r.objects) k))), get_seen r.objects k) (by_object (get r.objects k))
+  pub peer_there : (k : ℕ) → has_key (map object_entry r.objects) (peer_in (body_in (get (map object_entry r.objects) k))) ≡ is_some (peer_here r.objects k)
+  peer_there k = rw (has_seen r.objects (peer_in (body_in (get (map object_entry r.objects) k))), get_seen r.objects k) (by_object (get r.objects k))
     where
-      by_body : (b : Body) → has_key r.objects (peer_seen (Some (body_value b))) ≡ is_some (if_there r.objects (peer_of b))
+      by_body : (b : Body) → has_key r.objects (peer_in (Some (body_value b))) ≡ is_some (if_there r.objects (peer_of b))
       by_body (body.ChannelEnd peer queue) = there_or_not (has_key r.objects peer) peer
       by_body (body.PairEnd peer) = there_or_not (has_key r.objects peer) peer
       by_body _ = no_object
 
-      by_object : (o : Option Object) → has_key r.objects (peer_seen (body_in (option_map object_value o))) ≡ is_some (if_there r.objects (peer_in o))
+      by_object : (o : Option Object) → has_key r.objects (peer_in (body_in (option_map object_value o))) ≡ is_some (if_there r.objects (peer_found o))
       by_object None = no_object
       by_object (Some o) = by_body o.body
 
   -- which it is
-  pub peer_is : (k n : ℕ) → peer_at r.objects k ≡ Some n → peer_seen (body_in (get (map object_entry r.objects) k)) ≡ n
+  pub peer_is : (k n : ℕ) → peer_here r.objects k ≡ Some n → peer_in (body_in (get (map object_entry r.objects) k)) ≡ n
   peer_is k n at = rw (get_seen r.objects k) (by_object (get r.objects k) at)
     where
       by_key : (b : Bool) (peer : ℕ) → (if b then Some peer else None) ≡ Some n → peer ≡ n
       by_key true peer read = same_Some peer n read
       by_key false peer read = absurd (none-some n read)
 
-      by_body : (b : Body) → if_there r.objects (peer_of b) ≡ Some n → peer_seen (Some (body_value b)) ≡ n
+      by_body : (b : Body) → if_there r.objects (peer_of b) ≡ Some n → peer_in (Some (body_value b)) ≡ n
       by_body (body.ChannelEnd peer queue) read = by_key (has_key r.objects peer) peer read
       by_body (body.PairEnd peer) read = by_key (has_key r.objects peer) peer read
       by_body _ read = absurd (none-some n read)
 
-      by_object : (o : Option Object) → if_there r.objects (peer_in o) ≡ Some n → peer_seen (body_in (option_map object_value o)) ≡ n
+      by_object : (o : Option Object) → if_there r.objects (peer_found o) ≡ Some n → peer_in (body_in (option_map object_value o)) ≡ n
       by_object None read = absurd (none-some n read)
       by_object (Some o) read = by_body o.body read
 
 -- of an end of a channel the reader is the peer
-reader_is : (os : Map Object) (e : Entry) → IsNamed os e → takes (kind.Channel ∷ []) e.kind ≡ true → reader_at os e.koid ≡ peer_at os e.koid
+reader_is : (os : Map Object) (e : Entry) → IsNamed os e → takes (kind.Channel ∷ []) e.kind ≡ true → reader_at os e.koid ≡ peer_here os e.koid
 reader_is os e named fits = rw named.there (ap (if_there os) (by_body named.object.body (rw named.kind at fits)))
   where
     by_body : (b : Body) → takes (kind.Channel ∷ []) (kind_of (body_value b)) ≡ true → reader_of b ≡ peer_of b
@@ -193,10 +193,10 @@ module _ (m : Message) where
       same : (o : Object) → sent m o ≡ requeued sent_last o
       same o = ap (λ (b : Body). record o { body = b }) (by_body o.body)
 
-count_koids : (j : ℕ) (es : List Entry) → count_by (λ (e : Entry). e.koid == j) es ≡ count_by (λ i. i == j) (koids_of es)
+count_koids : (j : ℕ) (es : List Entry) → count_by (λ (e : Entry). e.koid == j) es ≡ count_by (λ i. i == j) (koids_in es)
 count_koids j [] = refl
 count_koids j (e ∷ es) =
-    omega (arith, count_koids j es, sum_by-cons (λ (x : Entry). cond (x.koid == j) 1 0) e es, sum_by-cons (λ (i : ℕ). cond (i == j) 1 0) e.koid (koids_of es))
+    omega (arith, count_koids j es, sum_by-cons (λ (x : Entry). cond (x.koid == j) 1 0) e es, sum_by-cons (λ (i : ℕ). cond (i == j) 1 0) e.koid (koids_in es))
 
 -- ---- the step
 
@@ -212,14 +212,14 @@ module _ {before after : List Process} {r : Objects} {p p2 : Process} (lib : Lib
 
   -- the end at the value c is one of a channel
   reader_here : (e : Entry) → looked_up p.table.entries c (kind.Channel ∷ []) WRITE ≡ Ok e → get p.table.entries c ≡ Some e
-      → reader_at r.objects e.koid ≡ peer_at r.objects e.koid
+      → reader_at r.objects e.koid ≡ peer_here r.objects e.koid
   reader_here e is at =
       reader_is r.objects e (consistent.named p.pid (process_value p) c e write.there at) (is_of_kind (get p.table.entries c) (kind.Channel ∷ []) WRITE e is)
 
   abbrev refused_by : Option Status
   refused_by = write_refusal p.table.entries r.objects c (length bytes) hs
 
-  refused : refusal lib w p.pid (chan_write c bytes hs) ≡ answers refused_by
+  refused : plain_refusal lib w p.pid (chan_write c bytes hs) ≡ answers refused_by
   unfolding handle_operands operands_fault listed
   refused =
       first_looked_up lib w p.pid p.table.entries (table_is write r) (chan_write c bytes hs) refused_by
@@ -227,7 +227,7 @@ module _ {before after : List Process} {r : Objects} {p p2 : Process} (lib : Lib
       (ap (option_or (result_err (looked_up p.table.entries c (kind.Channel ∷ []) WRITE))) (sym (list_fault p.table.entries [] [] hs (λ v. refl))))
       (λ s is. rw is refl)
       (λ e is at. rw (is, table_is write r, at, reader_here e is at, peer_there r consistent.no_zero e.koid)
-      (by_tests (list_refusal p.table.entries [] hs) (not (is_some (peer_at r.objects e.koid)))))
+      (by_tests (list_refusal p.table.entries [] hs) (not (is_some (peer_here r.objects e.koid)))))
     where
       by_tests : (o : Option Status) (closed : Bool)
           → first_some (answers o ∷ answer_if (contains hs c) status.NotSupported ∷ answer_if (is_too_large bytes hs) status.OutOfRange
@@ -246,7 +246,7 @@ module _ {before after : List Process} {r : Objects} {p p2 : Process} (lib : Lib
 
     -- ---- the relation of calls
 
-    peer_same : peer_named w p.pid c ≡ writes.peer
+    peer_same : peer_at w p.pid c ≡ writes.peer
     peer_same =
         rw (table_is write r, is_found (get p.table.entries c) (kind.Channel ∷ []) WRITE writes.end writes.is_end)
         (peer_is r consistent.no_zero writes.end.koid writes.peer
@@ -290,7 +290,7 @@ module _ {before after : List Process} {r : Objects} {p p2 : Process} (lib : Lib
     named_now : (e : Entry) → IsNamed r.objects e → IsNamed changed.objects e
     named_now = requeued_named (sent_last message) r.objects writes.peer
 
-    queue_named : (b : Body) → AreNamed r.objects (queue_of b) → AreNamed changed.objects (queue_of (requeued_body (sent_last message) b))
+    queue_named : (b : Body) → AreNamed r.objects (queue_held b) → AreNamed changed.objects (queue_held (requeued_body (sent_last message) b))
     queue_named (body.ChannelEnd peer queue) old =
         All-append (λ (x : Message). All (IsNamed changed.objects) x.handles) queue (message ∷ []) (still_named r.objects changed.objects named_now queue old)
         (All-cons (λ (x : Message). All (IsNamed changed.objects) x.handles) message [] (all_taken (IsNamed changed.objects) hs p.table (λ v e at. named_now e
@@ -298,7 +298,7 @@ module _ {before after : List Process} {r : Objects} {p p2 : Process} (lib : Lib
     queue_named _ old = All-nil (λ (x : Message). All (IsNamed changed.objects) x.handles)
 
     -- the handles have left the table, and count still; then they are in the queue
-    left : IsSound after (taken_map p.table hs) r
+    left : AreSound after (taken_map p.table hs) r
     left = taken_sound write hs writes.table r consistent state_same
 
     write_counts : (j : ℕ) → handles_to (world_value after changed) j + count_by (λ (h : ℕ × Entry). h.1.koid == j) []

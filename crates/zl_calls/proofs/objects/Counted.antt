@@ -1,12 +1,12 @@
 -- A handle that counts is in a table or in a queue, and names an object that is there.
-use Rattle.zl_calls.proofs.Common.{All, All-head, All-tail, AreNamed, Bool, Entry, Found, IsNamed, IsSound, IsTable, IsTrue, List, Map, Message, Objects, []}
+use Rattle.zl_calls.proofs.Common.{All, All-head, All-tail, AreNamed, AreSound, Bool, Entry, Found, IsNamed, IsTable, IsTrue, List, Map, Message, Objects, []}
 use Rattle.zl_calls.proofs.Common.{any_found, any_seen, arith, body_value, count_by, count_none, eqb-true, false≢true, handles_to, has_key, inl, inr, list_any}
 use Rattle.zl_calls.proofs.Common.{map, named_queue, names, object_entry, or_cases, positive_part, process_entry, queued_to, refl, subst, suc, sum_by}
 use Rattle.zl_calls.proofs.Common.{summed_any, sym, world_value, zero, ℕ, ◌<◌, ◌==◌, ◌∙◌, ◌∷◌, ◌≡◌, ◌⊎◌}
-use Rattle.zl_code.proofs.Common.{queue_of as queue_value}
+use Rattle.zl_code.proofs.Common.{queue_of}
 use Rattle.zl_objects.specs.declared.object.Body.{Body}
 use Rattle.zl_objects.specs.declared.object.Body.TheVariants as body
-use Rattle.zl_objects.specs.Objects.{queue_of}
+use Rattle.zl_objects.specs.Objects.{queue_held}
 use Rattle.zl_calls.specs.declared.process.Process.{Process}
 
 -- what is true of each is true of the one that passes
@@ -18,11 +18,11 @@ all_any P test C found (x ∷ xs) all some = elim (or_cases (test x) (list_any t
   | inr later ↦ all_any P test C found xs (All-tail P x xs all) later
 ]
 
-pub queue_seen : (b : Body) → queue_value (body_value b) ≡ queue_of b
+pub queue_seen : (b : Body) → queue_of (body_value b) ≡ queue_held b
 queue_seen (body.Job own) = refl
 queue_seen _ = refl
 
-module _ (ps : List Process) (m : Map Entry) (r : Objects) (sound : IsSound ps m r) (k : ℕ) where
+module _ (ps : List Process) (m : Map Entry) (r : Objects) (sound : AreSound ps m r) (k : ℕ) where
   abbrev IsThere : Type 0
   IsThere = IsTrue (has_key r.objects k)
 
@@ -41,12 +41,12 @@ module _ (ps : List Process) (m : Map Entry) (r : Objects) (sound : IsSound ps m
   among = all_any (λ (x : Message). All (IsNamed r.objects) x.handles) (λ (x : Message). list_any (λ (h : Entry). h.koid == k) x.handles) IsThere
       (λ x. all_any (IsNamed r.objects) (λ (h : Entry). h.koid == k) IsThere is_there x.handles)
 
-  in_a_queue : IsTrue (list_any (λ o. names k (queue_value o.1.body)) (map object_entry r.objects)) → IsThere
+  in_a_queue : IsTrue (list_any (λ o. names k (queue_of o.1.body)) (map object_entry r.objects)) → IsThere
   in_a_queue some =
-      let end : Found (λ o. names k (queue_value (object_entry o).1.body)) r.objects =
-      any_found (λ o. names k (queue_value (object_entry o).1.body)) r.objects sound.objects_in_order
-      (sym (any_seen (λ o. names k (queue_value o.1.body)) r.objects) ∙ some) in
-      among (queue_of end.value.body) (sound.queued end.key end.value end.at)
+      let end : Found (λ o. names k (queue_of (object_entry o).1.body)) r.objects =
+      any_found (λ o. names k (queue_of (object_entry o).1.body)) r.objects sound.objects_in_order
+      (sym (any_seen (λ o. names k (queue_of o.1.body)) r.objects) ∙ some) in
+      among (queue_held end.value.body) (sound.queued end.key end.value end.at)
       (subst (λ (queue : List Message). IsTrue (names k queue)) (queue_seen end.value.body) end.passes)
 
   pub counted_there : 0 < handles_to (world_value ps r) k → IsThere
@@ -59,7 +59,7 @@ module _ (ps : List Process) (m : Map Entry) (r : Objects) (sound : IsSound ps m
           in_a_table (summed_any (λ p. count_by (λ h. h.1.koid == k) p.1.handles) (λ p. list_any (λ h. h.1.koid == k) p.1.handles)
           (λ p none. count_none (λ h. h.1.koid == k) p.1.handles none) (map process_entry ps) tables)
       by_part (inr queues) =
-          in_a_queue (summed_any (λ o. queued_to k o.1.body) (λ o. names k (queue_value o.1.body)) (λ o none. named_queue k o.1.body none)
+          in_a_queue (summed_any (λ o. queued_to k o.1.body) (λ o. names k (queue_of o.1.body)) (λ o none. named_queue k o.1.body none)
           (map object_entry r.objects) queues)
 
   -- where nothing has the koid, no handle names it

@@ -1,18 +1,18 @@
 -- One object more, with the handles that name it and are to enter a table: what the invariant says of both.
-use Rattle.zl_calls.proofs.Common.{Agrees, All, All-nil, AreKeptBut, AreNamed, Bool, Entry, IsConsistent, IsNamed, IsSound, IsTrue, List, Map, Message, None}
+use Rattle.zl_calls.proofs.Common.{Agrees, All, All-nil, AreKeptBut, AreNamed, AreSound, Bool, Entry, IsConsistent, IsNamed, IsTrue, List, Map, Message, None}
 use Rattle.zl_calls.proofs.Common.{Objects, Option, Pair, Some, World, [], ap, arith, body_value, cases_Bool, cond, count_by, default_rights_of, eq-eqb}
-use Rattle.zl_calls.proofs.Common.{eqb-true, false, false≢true, get, get-put, handles_to, has_key, has_living_child, has_seen, if◌then◌else◌, inl, inr}
+use Rattle.zl_calls.proofs.Common.{eqb-true, false, false≢true, get, get-put, handles_to, has_key, has_living_child_here, has_seen, if◌then◌else◌, inl, inr}
 use Rattle.zl_calls.proofs.Common.{is_child, is_in_job, is_job_at, is_job_in, is_kept, is_killed, is_process, is_some, is_sorted, kept_all, kind_of, list_any}
 use Rattle.zl_calls.proofs.Common.{map, map-append, more_in_job, nat_cmp, nat_lt, new_object, object_entry, object_value, process_entry, put, put_key, put_last}
 use Rattle.zl_calls.proofs.Common.{queued_to, refl, runs, same_Some, sorted_put, state_passes, stays_alone, subst, sum_by-cons, sym, true, with_new, within}
 use Rattle.zl_calls.proofs.Common.{world_value, ℕ, ◌++◌, ◌+◌, ◌<◌, ◌==◌, ◌^◌, ◌||◌, ◌∙◌, ◌∷◌, ◌≡◌}
-use Rattle.zl_code.proofs.Common.{Process as ProcessValue, State as StateValue}
+use Rattle.zl_code.proofs.Common.{Process as ProcessValue, State}
 use Rattle.zl_objects.specs.declared.object.Body.{Body}
 use Rattle.zl_objects.specs.declared.object.Body.TheVariants as body
 use Rattle.zl_objects.specs.declared.object.Object.{Object}
 use Rattle.zl_calls.specs.declared.process.Process.{Process}
 use Rattle.zl_objects.specs.declared.object.Pair.TheVariants as pair
-use Rattle.zl_objects.specs.Objects.{end_to, kind_of_pair, queue_of}
+use Rattle.zl_objects.specs.Objects.{end_to, kind_of_pair, queue_held}
 use Rattle.zl_calls.proofs.objects.Counted.{never_named}
 use Rattle.zl_calls.proofs.objects.Counting.{queues_grown, same_tables}
 use Rattle.zl_calls.proofs.objects.SameBodies.{kept_each, still_agrees, still_named}
@@ -35,14 +35,14 @@ grown_seen r b handles given =
     ∙ sym (map-append object_entry r.objects ((r.next_koid, new_object b handles) ∷ []))
 
 -- where no message is, no handle is
-pub none_queued : (j : ℕ) (b : Body) → queue_of b ≡ [] → ◌≡◌ {A = ℕ} (queued_to j (body_value b)) 0
+pub none_queued : (j : ℕ) (b : Body) → queue_held b ≡ [] → ◌≡◌ {A = ℕ} (queued_to j (body_value b)) 0
 none_queued j (body.ChannelEnd peer queue) empty = rw empty refl
 none_queued j _ empty = refl
 
 -- an object that is neither a process nor a killed job, in which no message is, and which stands in no job
 pub record IsQuiet (b : Body) : Type 0 where
   pub agrees : (w : World) (k : ℕ) → is_process w runs k ≡ false → Agrees w k b
-  pub empty : queue_of b ≡ []
+  pub empty : queue_held b ≡ []
   pub in_job : (m : Map Object) → IsTrue (is_in_job m b)
   pub alive : is_killed b ≡ false
 
@@ -61,13 +61,13 @@ end_rights pair.Eventpair = refl
 
 -- the invariant, where the handles m count and are to enter a table
 pub record IsGrowing (ps : List Process) (m : Map Entry) (r : Objects) : Type 0 where
-  pub sound : IsSound ps m r
+  pub sound : AreSound ps m r
   pub kept : AreKeptBut [] r.objects
 
 pub growing_none : (ps : List Process) (r : Objects) → IsConsistent ps r → IsGrowing ps [] r
 growing_none ps r consistent = record { sound = sound_of ps r consistent; kept = consistent.kept }
 
-module _ (ps : List Process) (m : Map Entry) (r : Objects) (sound : IsSound ps m r) where
+module _ (ps : List Process) (m : Map Entry) (r : Objects) (sound : AreSound ps m r) where
   given_key : (k : ℕ) (o : Object) → get r.objects k ≡ Some o → k < r.next_koid
   given_key k o at = sound.given_objects k (rw at refl)
 
@@ -113,7 +113,7 @@ module _ (ps : List Process) (m : Map Entry) (r : Objects) (sound : IsSound ps m
     pub there_grown : get grown.objects n ≡ Some fresh
     there_grown = get_grown n ∙ rw (eq-eqb n n refl) refl
 
-    not_there : (test : StateValue → Bool) → is_process (world_value ps r) test n ≡ false
+    not_there : (test : State → Bool) → is_process (world_value ps r) test n ≡ false
     unfolding is_process
     not_there test = by_process (get (map process_entry ps) n) refl
       where
@@ -139,7 +139,7 @@ module _ (ps : List Process) (m : Map Entry) (r : Objects) (sound : IsSound ps m
     still_in_job = more_in_job r.objects grown.objects job_grown
 
     still_alone : (j : ℕ) (c : Body) → IsTrue (stays_alone r.objects j c) → IsTrue (stays_alone grown.objects j c)
-    unfolding has_living_child
+    unfolding has_living_child_here
     still_alone j (body.Job own) alone = any_more (λ e. is_child j e.1.body) r.objects (n, fresh) alone
     still_alone j _ alone = alone
 
@@ -152,14 +152,14 @@ module _ (ps : List Process) (m : Map Entry) (r : Objects) (sound : IsSound ps m
         by_count false h = still_alone j q.body h
 
     -- what it is agrees with there being no such process, and no message is in it; none of the handles m names it, and so many of m2 do
-    module _ (quiet : ((test : StateValue → Bool) → is_process (world_value ps r) test n ≡ false) → Agrees (world_value ps r) n b) (empty : queue_of b ≡ [])
+    module _ (quiet : ((test : State → Bool) → is_process (world_value ps r) test n ≡ false) → Agrees (world_value ps r) n b) (empty : queue_held b ≡ [])
         (in_job : IsTrue (is_in_job grown.objects b)) (koid : n < 2 ^ 62)
         (apart_from : ◌≡◌ {A = ℕ} (count_by (λ h. h.1.koid == n) m) 0) (m2 : Map Entry)
         (counted_is : (j : ℕ) → count_by (λ h. h.1.koid == j) m2 ≡ cond (n == j) count 0 + count_by (λ h. h.1.koid == j) m) where
       same_handles : (j : ℕ) → handles_to (world_value ps grown) j ≡ handles_to (world_value ps r) j
       same_handles j = same_tables ps r grown j (queues_grown r b count j (none_queued j b empty))
 
-      pub grown_sound : IsSound ps m2 grown
+      pub grown_sound : AreSound ps m2 grown
       unfolding is_process
       grown_sound = record {
         processes_in_order = sound.processes_in_order;
@@ -177,10 +177,10 @@ module _ (ps : List Process) (m : Map Entry) (r : Objects) (sound : IsSound ps m
         ];
         tables = sound.tables;
         named = λ k p v e at there. grown_named e (sound.named k p v e at there);
-        queued = λ j q at. found_grown (AreNamed grown.objects (queue_of q.body)) j q at
+        queued = λ j q at. found_grown (AreNamed grown.objects (queue_held q.body)) j q at
             (λ here is.
-            subst (λ (o : Object). AreNamed grown.objects (queue_of o.body)) is (rw empty (All-nil (λ (y : Message). All (IsNamed grown.objects) y.handles))))
-            (λ apart old. still_named r.objects grown.objects grown_named (queue_of q.body) (sound.queued j q old));
+            subst (λ (o : Object). AreNamed grown.objects (queue_held o.body)) is (rw empty (All-nil (λ (y : Message). All (IsNamed grown.objects) y.handles))))
+            (λ apart old. still_named r.objects grown.objects grown_named (queue_held q.body) (sound.queued j q old));
         counted = λ j q at. found_grown (q.handles ≡ handles_to (world_value ps grown) j + count_by (λ h. h.1.koid == j) m2) j q at
             (λ here is.
             let same : n ≡ j = eqb-true n j here in
@@ -211,7 +211,7 @@ module _ (ps : List Process) (m : Map Entry) (r : Objects) (sound : IsSound ps m
 
 -- the handle x names it, and is to enter a table too
 pub grown_one : (ps : List Process) (m : Map Entry) (r : Objects) → IsGrowing ps m r → (b : Body)
-    → (((test : StateValue → Bool) → is_process (world_value ps r) test r.next_koid ≡ false) → Agrees (world_value ps r) r.next_koid b) → queue_of b ≡ []
+    → (((test : State → Bool) → is_process (world_value ps r) test r.next_koid ≡ false) → Agrees (world_value ps r) r.next_koid b) → queue_held b ≡ []
     → IsTrue (is_in_job (with_new r b 1).objects b) → r.next_koid < 2 ^ 62 → ◌≡◌ {A = ℕ} (count_by (λ h. h.1.koid == r.next_koid) m) 0 → (x : ℕ × Entry)
     → x.1.koid ≡ r.next_koid → IsGrowing ps (x ∷ m) (with_new r b 1)
 grown_one ps m r growing b quiet empty in_job koid apart_from x names = record {

@@ -1,9 +1,9 @@
 -- An object is held once more: what the world sees of it, and the invariant, where the handle is to enter a table.
-use Rattle.zl_calls.proofs.Common.{AreKeptBut, Entry, IsSound, IsTrue, List, Map, None, Objects, Some, [], ap, arith, cond, count_by, eq-eqb, false, get}
+use Rattle.zl_calls.proofs.Common.{AreKeptBut, AreSound, Entry, IsTrue, List, Map, None, Objects, Some, [], ap, arith, cond, count_by, eq-eqb, false, get}
 use Rattle.zl_calls.proofs.Common.{handles_to, held_once_more, holding, nat_lt, nat_tests, object_value, put, refl, true, world_value, ℕ, ◌+◌, ◌<◌, ◌==◌, ◌^◌}
 use Rattle.zl_calls.proofs.Common.{◌≡◌}
 use Rattle.zl_objects.specs.declared.object.Object.{Object}
-use Rattle.zl_objects.specs.Objects.{queue_of}
+use Rattle.zl_objects.specs.Objects.{queue_held}
 use Rattle.zl_calls.specs.declared.process.Process.{Process}
 use Rattle.zl_calls.proofs.objects.Counting.{count_put}
 use Rattle.zl_calls.proofs.objects.Rebodied.{KeepsKind, changed_sound, kept_still, quiet_named, same_handles, same_kind}
@@ -28,12 +28,12 @@ held_kind = same_kind held_once_more more_same
 -- the handle e to the object isn't among those that count beside the tables, and the object has place for it
 module _ (ps : List Process) (m : Map Entry) (r : Objects) (v : ℕ) (e : Entry) where
   pub more_handles : (j : ℕ) → handles_to (world_value ps (holding r e.koid)) j ≡ handles_to (world_value ps r) j
-  more_handles = same_handles held_once_more held_kind (λ o. ap queue_of (more_same o)) ps r e.koid
+  more_handles = same_handles held_once_more held_kind (λ o. ap queue_held (more_same o)) ps r e.koid
 
-  pub holding_sound : IsSound ps m r → get m v ≡ None → ((o : Object) → get r.objects e.koid ≡ Some o → o.handles < 2 ^ 62)
-      → IsSound ps (put m v e) (holding r e.koid)
+  pub holding_sound : AreSound ps m r → get m v ≡ None → ((o : Object) → get r.objects e.koid ≡ Some o → o.handles < 2 ^ 62)
+      → AreSound ps (put m v e) (holding r e.koid)
   holding_sound sound free room = changed_sound held_once_more held_kind ps r e.koid m (put m v e) sound
-      (quiet_named held_once_more held_kind (λ o. ap queue_of (more_same o)) ps r e.koid sound.queued)
+      (quiet_named held_once_more held_kind (λ o. ap queue_held (more_same o)) ps r e.koid sound.queued)
       (λ o old.
       let one : ◌≡◌ {A = ℕ} (cond (e.koid == e.koid) 1 0) 1 = rw (eq-eqb e.koid e.koid refl) refl in
       omega (arith, held_more o (room o old), sound.counted e.koid o old, counts e.koid, one, more_handles e.koid))

@@ -4,7 +4,7 @@ use Rattle.zl_calls.proofs.Common.{object_value, refl, repacked, ℕ, ◌≡◌}
 use Rattle.zl_objects.specs.declared.object.Body.{Body}
 use Rattle.zl_objects.specs.declared.object.Body.TheVariants as body
 use Rattle.zl_objects.specs.declared.object.Object.{Object}
-use Rattle.zl_objects.specs.Objects.{queue_of}
+use Rattle.zl_objects.specs.Objects.{queue_held}
 use Rattle.zl_calls.specs.declared.process.Process.{Process}
 use Rattle.zl_calls.proofs.objects.Rebodied.{IsAlike, alike_itself, quiet_consistent}
 
@@ -22,7 +22,7 @@ module _ (f : Port → Port) where
   port_alike (body.Port port) = record { kind = refl; living = λ j. refl; in_job = λ m. refl; alone = λ m k. refl; agrees = λ w k same. same }
   port_alike b = alike_itself b
 
-  port_quiet : (b : Body) → queue_of (changed_port f b) ≡ queue_of b
+  port_quiet : (b : Body) → queue_held (changed_port f b) ≡ queue_held b
   port_quiet (body.Port port) = refl
   port_quiet _ = refl
 

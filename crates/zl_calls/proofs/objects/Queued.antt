@@ -1,10 +1,10 @@
 -- The queue of one object changes, and nothing else of it: what the invariant says of the objects.
-use Rattle.zl_calls.proofs.Common.{AreKeptBut, AreNamed, Entry, IsNamed, IsSound, List, Map, Message, Objects, Some, [], arith, count_by, get, handles_to, refl}
-use Rattle.zl_calls.proofs.Common.{update, world_value, ℕ, ◌+◌, ◌==◌, ◌≡◌}
+use Rattle.zl_calls.proofs.Common.{AreKeptBut, AreNamed, AreSound, Entry, IsNamed, List, Map, Message, Objects, Some, [], arith, count_by, get, handles_to}
+use Rattle.zl_calls.proofs.Common.{refl, update, world_value, ℕ, ◌+◌, ◌==◌, ◌≡◌}
 use Rattle.zl_objects.specs.declared.object.Body.{Body}
 use Rattle.zl_objects.specs.declared.object.Body.TheVariants as body
 use Rattle.zl_objects.specs.declared.object.Object.{Object}
-use Rattle.zl_objects.specs.Objects.{queue_of}
+use Rattle.zl_objects.specs.Objects.{queue_held}
 use Rattle.zl_calls.specs.declared.process.Process.{Process}
 use Rattle.zl_calls.proofs.objects.Counting.{queues}
 use Rattle.zl_calls.proofs.objects.Rebodied.{IsAlike, alike_itself, named_still, recounted_kept, recounted_sound}
@@ -27,10 +27,10 @@ module _ (h : List Message → List Message) where
   requeued_named = named_still (requeued h) (λ o. queue_alike o.body)
 
   -- where the handles in the queue are named; those of m counted beside tables and queues, and those of m2 do now
-  pub requeued_sound : (ps : List Process) (r : Objects) (k : ℕ) (m m2 : Map Entry) → IsSound ps m r
-      → ((o : Object) → get r.objects k ≡ Some o → AreNamed (update r.objects k (requeued h)) (queue_of (requeued_body h o.body)))
+  pub requeued_sound : (ps : List Process) (r : Objects) (k : ℕ) (m m2 : Map Entry) → AreSound ps m r
+      → ((o : Object) → get r.objects k ≡ Some o → AreNamed (update r.objects k (requeued h)) (queue_held (requeued_body h o.body)))
       → ((j : ℕ) → handles_to (world_value ps (record r { objects = update r.objects k (requeued h) })) j + count_by (λ x. x.1.koid == j) m2
-      ≡ handles_to (world_value ps r) j + count_by (λ x. x.1.koid == j) m) → IsSound ps m2 (record r { objects = update r.objects k (requeued h) })
+      ≡ handles_to (world_value ps r) j + count_by (λ x. x.1.koid == j) m) → AreSound ps m2 (record r { objects = update r.objects k (requeued h) })
   requeued_sound ps r k = recounted_sound (requeued h) (λ o. queue_alike o.body) ps r k (λ o. refl)
 
   pub requeued_kept : (ps : List Process) (r : Objects) (k : ℕ) → AreKeptBut [] r.objects → AreKeptBut [] (update r.objects k (requeued h))

@@ -1,12 +1,12 @@
 -- One object becomes another that is of its kind and is kept as it was: what the invariant says of the objects.
-use Rattle.zl_calls.proofs.Common.{Agrees, AreKeptBut, AreNamed, Entry, IsConsistent, IsNamed, IsSound, IsTrue, List, Map, Message, Objects, Some, World, []}
+use Rattle.zl_calls.proofs.Common.{Agrees, AreKeptBut, AreNamed, AreSound, Entry, IsConsistent, IsNamed, IsTrue, List, Map, Message, Objects, Some, World, []}
 use Rattle.zl_calls.proofs.Common.{alone_changed, ap, body_value, count_by, false, get, handles_to, has_key-update, inl, inr, is_child, is_in_job, is_kept}
 use Rattle.zl_calls.proofs.Common.{is_process, is_sorted-update, kept_all, kind_of, nat_lt, or_cases, or_left, or_right, queued_to, refl, same_in_job}
 use Rattle.zl_calls.proofs.Common.{stays_alone, subst, sum_by, sym, update, world_value, ℕ, ◌+◌, ◌==◌, ◌∙◌, ◌≡◌}
 use Rattle.zl_objects.specs.declared.object.Body.{Body}
 use Rattle.zl_objects.specs.declared.object.Body.TheVariants as body
 use Rattle.zl_objects.specs.declared.object.Object.{Object}
-use Rattle.zl_objects.specs.Objects.{queue_of}
+use Rattle.zl_objects.specs.Objects.{queue_held}
 use Rattle.zl_calls.specs.declared.process.Process.{Process}
 use Rattle.zl_calls.proofs.objects.Counting.{queues_kept, same_tables}
 use Rattle.zl_calls.proofs.objects.SameBodies.{each_updated, jobs_kept, kept_each, named_kept, still_agrees, still_named}
@@ -32,7 +32,7 @@ pub same_kind : (f : Object → Object) → ((o : Object) → (f o).body ≡ o.b
 same_kind f same o = subst (IsAlike o.body) (sym (same o)) (alike_itself o.body)
 
 -- handles in queues are counted by what queue a body has
-queued_in : (j : ℕ) (b : Body) → queued_to j (body_value b) ≡ sum_by (λ m. count_by (λ h. h.koid == j) m.handles) (queue_of b)
+queued_in : (j : ℕ) (b : Body) → queued_to j (body_value b) ≡ sum_by (λ m. count_by (λ h. h.koid == j) m.handles) (queue_held b)
 queued_in j (body.ChannelEnd peer queue) = refl
 queued_in j _ = refl
 
@@ -69,12 +69,12 @@ module _ (f : Object → Object) (same : KeepsKind f) where
     changed = record r { objects = update r.objects k f }
 
     -- the handles m counted beside those in tables and queues, and m2 do now
-    pub changed_sound : (m m2 : Map Entry) → IsSound ps m r → ((o : Object) → get r.objects k ≡ Some o → AreNamed (update r.objects k f) (queue_of (f o).body))
-        → ((o : Object) → get r.objects k ≡ Some o
+    pub changed_sound : (m m2 : Map Entry) → AreSound ps m r
+        → ((o : Object) → get r.objects k ≡ Some o → AreNamed (update r.objects k f) (queue_held (f o).body)) → ((o : Object) → get r.objects k ≡ Some o
         → (f o).handles ≡ handles_to (world_value ps (record r { objects = update r.objects k f })) k + count_by (λ h. h.1.koid == k) m2)
         → ((j : ℕ) (o : Object) → (k == j) ≡ false → get r.objects j ≡ Some o
         → o.handles ≡ handles_to (world_value ps (record r { objects = update r.objects k f })) j + count_by (λ h. h.1.koid == j) m2)
-        → IsSound ps m2 (record r { objects = update r.objects k f })
+        → AreSound ps m2 (record r { objects = update r.objects k f })
     unfolding is_process
     changed_sound m m2 sound queue own others = record {
       processes_in_order = sound.processes_in_order;
@@ -86,8 +86,8 @@ module _ (f : Object → Object) (same : KeepsKind f) where
       no_zero = λ j there. sound.no_zero j (sym (has_key-update r.objects k f j) ∙ there);
       tables = sound.tables;
       named = λ j p v e at there. named_still r.objects k e (sound.named j p v e at there);
-      queued = each_updated (λ j q. AreNamed changed.objects (queue_of q.body)) f r.objects k queue
-          (λ j q apart old. still_named r.objects changed.objects (named_still r.objects k) (queue_of q.body) (sound.queued j q old));
+      queued = each_updated (λ j q. AreNamed changed.objects (queue_held q.body)) f r.objects k queue
+          (λ j q apart old. still_named r.objects changed.objects (named_still r.objects k) (queue_held q.body) (sound.queued j q old));
       counted = each_updated (λ j q. q.handles ≡ handles_to (world_value ps changed) j + count_by (λ h. h.1.koid == j) m2) f r.objects k own others;
       agrees = λ j q at. still_agrees (world_value ps r) (world_value ps changed) j q.body (λ test. refl)
           (each_updated (λ i x. Agrees (world_value ps r) i x.body) f r.objects k
@@ -99,10 +99,10 @@ module _ (f : Object → Object) (same : KeepsKind f) where
 
     module _ (handles : (o : Object) → (f o).handles ≡ o.handles) where
       -- where the object is held as often as before
-      pub recounted_sound : (m m2 : Map Entry) → IsSound ps m r
-          → ((o : Object) → get r.objects k ≡ Some o → AreNamed (update r.objects k f) (queue_of (f o).body))
+      pub recounted_sound : (m m2 : Map Entry) → AreSound ps m r
+          → ((o : Object) → get r.objects k ≡ Some o → AreNamed (update r.objects k f) (queue_held (f o).body))
           → ((j : ℕ) → handles_to (world_value ps (record r { objects = update r.objects k f })) j + count_by (λ h. h.1.koid == j) m2
-          ≡ handles_to (world_value ps r) j + count_by (λ h. h.1.koid == j) m) → IsSound ps m2 (record r { objects = update r.objects k f })
+          ≡ handles_to (world_value ps r) j + count_by (λ h. h.1.koid == j) m) → AreSound ps m2 (record r { objects = update r.objects k f })
       recounted_sound m m2 sound queue counts = changed_sound m m2 sound queue
           (λ o old. handles o ∙ (sound.counted k o old ∙ sym (counts k)))
           (λ j o apart old. sound.counted j o old ∙ sym (counts j))
@@ -112,7 +112,7 @@ module _ (f : Object → Object) (same : KeepsKind f) where
 
   -- ---- where its queue stays too
 
-  module _ (quiet : (o : Object) → queue_of (f o).body ≡ queue_of o.body) (ps : List Process) (r : Objects) (k : ℕ) where
+  module _ (quiet : (o : Object) → queue_held (f o).body ≡ queue_held o.body) (ps : List Process) (r : Objects) (k : ℕ) where
     pub same_handles : (j : ℕ) → handles_to (world_value ps (record r { objects = update r.objects k f })) j ≡ handles_to (world_value ps r) j
     same_handles j = same_tables ps r (record r { objects = update r.objects k f }) j (queues_kept f j as_queued r.objects k)
       where
@@ -120,13 +120,13 @@ module _ (f : Object → Object) (same : KeepsKind f) where
         as_queued o = queued_in j (f o).body
             ∙ (ap (λ (q : List Message). sum_by (λ m. count_by (λ h. h.koid == j) m.handles) q) (quiet o) ∙ sym (queued_in j o.body))
 
-    pub quiet_named : ((j : ℕ) (o : Object) → get r.objects j ≡ Some o → AreNamed r.objects (queue_of o.body)) → (o : Object)
-        → get r.objects k ≡ Some o → AreNamed (update r.objects k f) (queue_of (f o).body)
+    pub quiet_named : ((j : ℕ) (o : Object) → get r.objects j ≡ Some o → AreNamed r.objects (queue_held o.body)) → (o : Object)
+        → get r.objects k ≡ Some o → AreNamed (update r.objects k f) (queue_held (f o).body)
     quiet_named queued o at = subst (AreNamed (update r.objects k f)) (sym (quiet o))
-        (still_named r.objects (update r.objects k f) (named_still r.objects k) (queue_of o.body) (queued k o at))
+        (still_named r.objects (update r.objects k f) (named_still r.objects k) (queue_held o.body) (queued k o at))
 
     module _ (handles : (o : Object) → (f o).handles ≡ o.handles) where
-      pub quiet_sound : (m : Map Entry) → IsSound ps m r → IsSound ps m (record r { objects = update r.objects k f })
+      pub quiet_sound : (m : Map Entry) → AreSound ps m r → AreSound ps m (record r { objects = update r.objects k f })
       quiet_sound m sound = recounted_sound ps r k handles m m sound (quiet_named sound.queued)
           (λ j. ap (λ (n : ℕ). n + count_by (λ (h : ℕ × Entry). h.1.koid == j) m) (same_handles j))
 

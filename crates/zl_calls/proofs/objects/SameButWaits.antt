@@ -8,7 +8,7 @@ use Rattle.zl_objects.specs.declared.object.Body.{Body}
 use Rattle.zl_objects.specs.declared.object.Body.TheVariants as body
 use Rattle.zl_objects.specs.declared.object.Object.{Object}
 use Rattle.zl_objects.specs.declared.wait.Wait.{Wait}
-use Rattle.zl_objects.specs.Objects.{queue_of}
+use Rattle.zl_objects.specs.Objects.{queue_held}
 use Rattle.zl_objects.specs.Ports.{unreserved}
 use Rattle.zl_objects.proofs.Bare.{IsAlike, agrees_same, alike, has_same, in_job_same, of_body, same_then, seen_same, still_kept}
 use Rattle.zl_calls.specs.declared.process.Process.{Process}
@@ -59,8 +59,8 @@ module _ (ps : List Process) (r r2 : Objects) (beside : AreBeside r r2) where
       named = λ k p v e at there. named e (consistent.named k p v e at there);
       queued = λ k o at.
           let old : IsAlike r.objects k o = was k o at in
-          subst (AreNamed r2.objects) (sym (of_body queue_of (λ packets reserved. refl) o.body old.before.body old.body))
-          (still_named r.objects r2.objects named (queue_of old.before.body) (consistent.queued k old.before old.there));
+          subst (AreNamed r2.objects) (sym (of_body queue_held (λ packets reserved. refl) o.body old.before.body old.body))
+          (still_named r.objects r2.objects named (queue_held old.before.body) (consistent.queued k old.before old.there));
       counted = λ k o at.
           let old : IsAlike r.objects k o = was k o at in
           old.handles ∙ (consistent.counted k old.before old.there ∙ ap (λ (w : World). handles_to w k) (sym beside_world));

@@ -1,14 +1,14 @@
 -- Handles go, and what nothing keeps any more with them: the invariant holds afterwards, and the worlds are settled.
-use Rattle.zl_calls.proofs.Common.{AreKeptBut, AreNamed, Bool, Cascades, Drained, Entry, Found, IsConsistent, IsExact, IsNamed, IsSound, IsTrue, List, Map}
-use Rattle.zl_calls.proofs.Common.{Message, None, Objects, Option, Releases, Settles, Some, Was, World, [], any_counted, any_found, any_summed, ap}
-use Rattle.zl_calls.proofs.Common.{arith, body_value, cascaded, cascaded_was, cond, count_by, counted_any, eq-eqb, false≢true, get, get_seen, handles_to}
-use Rattle.zl_calls.proofs.Common.{has_key, inl, inr, is_process, is_sorted, kind_of, length, list_any, map, names, nat_cmp, none-some, none_left}
-use Rattle.zl_calls.proofs.Common.{object_entry, object_value, or_left, or_right, positive_part, process_entry, queue_named, queued_to, refl, releases_then}
-use Rattle.zl_calls.proofs.Common.{same_Some, settles_left, slice_index_or, sorted_without, subst, suc, sum_by-cons, sym, was_queue, was_seen}
-use Rattle.zl_calls.proofs.Common.{with_objects, without, world_value, zero, ℕ, ◌<◌, ◌==◌, ◌∙◌, ◌∷◌, ◌≡◌, ◌⊎◌}
-use Rattle.zl_code.proofs.Common.{Process as ProcessValue, queue_of as queue_value}
+use Rattle.zl_calls.proofs.Common.{AreKeptBut, AreNamed, AreSound, Bool, Cascades, Drained, Entry, Found, IsConsistent, IsExact, IsNamed, IsTrue, List, Map}
+use Rattle.zl_calls.proofs.Common.{Message, None, Objects, Option, Releases, Settles, Some, Was, World, [], any_counted, any_found, any_summed, ap, arith}
+use Rattle.zl_calls.proofs.Common.{body_value, cascaded, cascaded_was, cond, count_by, counted_any, eq-eqb, false≢true, get, get_seen, handles_to, has_key, inl}
+use Rattle.zl_calls.proofs.Common.{inr, is_process, is_sorted, kind_of, length, list_any, map, names, nat_cmp, none-some, none_left, object_entry, object_value}
+use Rattle.zl_calls.proofs.Common.{or_left, or_right, positive_part, process_entry, queue_named, queued_to, refl, releases_then, same_Some, settles_left}
+use Rattle.zl_calls.proofs.Common.{slice_index_or, sorted_without, subst, suc, sum_by-cons, sym, was_queue, was_seen, with_objects, without, world_value, zero}
+use Rattle.zl_calls.proofs.Common.{ℕ, ◌<◌, ◌==◌, ◌∙◌, ◌∷◌, ◌≡◌, ◌⊎◌}
+use Rattle.zl_code.proofs.Common.{Process as ProcessValue, queue_of}
 use Rattle.zl_objects.specs.declared.object.Object.{Object}
-use Rattle.zl_objects.specs.Objects.{queue_of}
+use Rattle.zl_objects.specs.Objects.{queue_held}
 use Rattle.zl_rights.proofs.MapTests.{any_at}
 use Rattle.zl_calls.specs.declared.process.Process.{Process}
 use Rattle.zl_calls.specs.calls.Process.{none_left as none_drained, one_more}
@@ -30,7 +30,7 @@ any_place test (x ∷ xs) zero d within passes = or_left (test x) _ passes
 any_place test (x ∷ xs) (suc n) d within passes = or_right (test x) _ (any_place test xs n d (omega (arith, within)) passes)
 
 -- the handles m have left their tables, and those to ks are to go
-module _ (ps : List Process) (m : Map Entry) (r : Objects) (sound : IsSound ps m r) (sorted : IsTrue (is_sorted nat_cmp m))
+module _ (ps : List Process) (m : Map Entry) (r : Objects) (sound : AreSound ps m r) (sorted : IsTrue (is_sorted nat_cmp m))
     (left : (v : ℕ) (e : Entry) → get m v ≡ Some e → IsNamed r.objects e)
     (ks : List ℕ) (counts : (k : ℕ) → count_by (λ j. j == k) ks ≡ count_by (λ (h : ℕ × Entry). h.1.koid == k) m) where
   abbrev w : World
@@ -93,29 +93,29 @@ module _ (ps : List Process) (m : Map Entry) (r : Objects) (sound : IsSound ps m
               (λ q. any_counted (λ h. h.1.koid == e.koid) q.1.handles) (map process_entry ps) some,
         )
 
-    in_queue : (k j : ℕ) (o : Object) → get r2.objects k ≡ Some o → IsTrue (names j (queue_of o.body)) → 0 < handles_to (world_value ps r2) j
+    in_queue : (k j : ℕ) (o : Object) → get r2.objects k ≡ Some o → IsTrue (names j (queue_held o.body)) → 0 < handles_to (world_value ps r2) j
     unfolding handles_to
     in_queue k j o at named =
         let seen_at : get (map object_entry r2.objects) k ≡ Some (object_value o) = get_seen r2.objects k ∙ rw at refl in
-        let some : IsTrue (list_any (λ x. names j (queue_value x.1.body)) (map object_entry r2.objects)) =
-        any_at (λ x. names j (queue_value x.1.body)) (map object_entry r2.objects) k (object_value o) seen_at
+        let some : IsTrue (list_any (λ x. names j (queue_of x.1.body)) (map object_entry r2.objects)) =
+        any_at (λ x. names j (queue_of x.1.body)) (map object_entry r2.objects) k (object_value o) seen_at
         (subst (λ (queue : List Message). IsTrue (names j queue)) (sym (queue_seen o.body)) named) in
         omega (
           arith,
-          any_summed (λ x. queued_to j x.1.body) (λ x. names j (queue_value x.1.body)) (λ x. queue_named j x.1.body) (map object_entry r2.objects) some,
+          any_summed (λ x. queued_to j x.1.body) (λ x. names j (queue_of x.1.body)) (λ x. queue_named j x.1.body) (map object_entry r2.objects) some,
         )
 
-    queued_left : (k : ℕ) (o : Object) → get r2.objects k ≡ Some o → AreNamed r2.objects (queue_of o.body)
+    queued_left : (k : ℕ) (o : Object) → get r2.objects k ≡ Some o → AreNamed r2.objects (queue_held o.body)
     queued_left k o at = λ n x within i e inside.
-        named_left (slice_index_or (slice_index_or (queue_of o.body) n x).handles i e)
-        (in_queue k (slice_index_or (slice_index_or (queue_of o.body) n x).handles i e).koid o at
-        (any_place (λ (y : Message). list_any (λ (h : Entry). h.koid == (slice_index_or (slice_index_or (queue_of o.body) n x).handles i e).koid) y.handles)
-        (queue_of o.body) n x within
-        (any_place (λ (h : Entry). h.koid == (slice_index_or (slice_index_or (queue_of o.body) n x).handles i e).koid)
-        (slice_index_or (queue_of o.body) n x).handles i e inside (eq-eqb _ _ refl))))
+        named_left (slice_index_or (slice_index_or (queue_held o.body) n x).handles i e)
+        (in_queue k (slice_index_or (slice_index_or (queue_held o.body) n x).handles i e).koid o at
+        (any_place (λ (y : Message). list_any (λ (h : Entry). h.koid == (slice_index_or (slice_index_or (queue_held o.body) n x).handles i e).koid) y.handles)
+        (queue_held o.body) n x within
+        (any_place (λ (h : Entry). h.koid == (slice_index_or (slice_index_or (queue_held o.body) n x).handles i e).koid)
+        (slice_index_or (queue_held o.body) n x).handles i e inside (eq-eqb _ _ refl))))
         (before n x within i e inside)
       where
-        before : AreNamed r.objects (queue_of o.body)
+        before : AreNamed r.objects (queue_held o.body)
         before = let old : Was r.objects k o = was k o at in rw (was_queue r.objects k o old) (sound.queued k old.before old.there)
 
     pub settled : IsSettled ps r r2
@@ -141,7 +141,7 @@ module _ (ps : List Process) (m : Map Entry) (r : Objects) (sound : IsSound ps m
 
 -- ---- no handle goes
 
-pub sound_of : (ps : List Process) (r : Objects) → IsConsistent ps r → IsSound ps [] r
+pub sound_of : (ps : List Process) (r : Objects) → IsConsistent ps r → AreSound ps [] r
 sound_of ps r consistent = record {
   processes_in_order = consistent.processes_in_order;
   objects_in_order = consistent.kept.in_order;
@@ -159,11 +159,11 @@ sound_of ps r consistent = record {
 }
 
 -- where all is held, the invariant holds, and settling leaves the objects
-all_held : (ps : List Process) (r : Objects) → IsSound ps [] r → AreKeptBut [] r.objects → IsSettled ps r r
+all_held : (ps : List Process) (r : Objects) → AreSound ps [] r → AreKeptBut [] r.objects → IsSettled ps r r
 unfolding get
 all_held ps r sound kept = settled ps [] r sound refl (λ v e at. absurd (none-some e at)) [] (λ k. refl) r (none_left r.objects) kept refl
 
-pub consistent_of : (ps : List Process) (r : Objects) → IsSound ps [] r → AreKeptBut [] r.objects → IsConsistent ps r
+pub consistent_of : (ps : List Process) (r : Objects) → AreSound ps [] r → AreKeptBut [] r.objects → IsConsistent ps r
 consistent_of ps r sound kept = (all_held ps r sound kept).consistent
 
 pub still_settles : (ps : List Process) (r : Objects) → IsConsistent ps r → Settles (world_value ps r) (settled_world ps r)

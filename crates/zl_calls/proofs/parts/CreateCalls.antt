@@ -1,22 +1,22 @@
 -- The call process_create: how it is refused, and what a process that is made leaves of the world and of the invariant.
-use Rattle.zl_calls.proofs.Common.{Agrees, AreBlocked, Bool, Calls, Created, Entry, Inserts, IsConsistent, IsSound, IsTable, IsTrue, Library, List}
-use Rattle.zl_calls.proofs.Common.{MANAGE_PROCESS, Map, None, Objects, Ok, Option, ProcessBody, Program, Replies, Site, Some, Values, World, [], answer_if, ap}
+use Rattle.zl_calls.proofs.Common.{Agrees, AreBlocked, AreSound, Bool, Created, Entry, Inserts, IsConsistent, IsTable, IsTrue, Library, List, MANAGE_PROCESS}
+use Rattle.zl_calls.proofs.Common.{Map, None, Objects, Ok, Option, PlainCalls, ProcessBody, Program, Replies, Site, Some, Values, World, [], answer_if, ap}
 use Rattle.zl_calls.proofs.Common.{arith, body_of, cases_Bool, cond, count_by, create_refusal, created_process, effect, eqb-true, false, false≢true, first_some}
 use Rattle.zl_calls.proofs.Common.{get, gives_ok, handle_operands, has_ended, has_koids, has_room, has_room_in, if◌then◌else◌, inl, inr, insert_all, is_blocked}
-use Rattle.zl_calls.proofs.Common.{is_dead, is_process, is_some, job_at, lacks_need, listed, lives, looked_up, map, map-append, may_choose, nat_le, needs_more}
-use Rattle.zl_calls.proofs.Common.{new_entry, new_handles, none-some, not, object_at, object_entry, on_process, operands_fault, option_or, process_create}
-use Rattle.zl_calls.proofs.Common.{process_entry, process_value, process_with, put, refl, refusal, remove_all, replied, runs, site, slice_get, state_passes}
-use Rattle.zl_calls.proofs.Common.{state_value, subst, sum_by-cons, sym, taken, taken_handles, then_some, update, with_effect, with_new, with_object}
-use Rattle.zl_calls.proofs.Common.{with_process, world_value, ℕ, ◌&&◌, ◌++◌, ◌+◌, ◌<◌, ◌==◌, ◌^◌, ◌∙◌, ◌∷◌, ◌≡◌}
+use Rattle.zl_calls.proofs.Common.{is_dead_here, is_process, is_some, job_at, lacks_need, listed, lives, looked_up, map, map-append, may_choose, nat_le}
+use Rattle.zl_calls.proofs.Common.{needs_more, new_entry, new_handles, none-some, not, object_at, object_entry, on_process, operands_fault, option_or}
+use Rattle.zl_calls.proofs.Common.{plain_refusal, process_create, process_entry, process_value, process_with, put, refl, remove_all, replied, runs, site}
+use Rattle.zl_calls.proofs.Common.{slice_get, state_passes, state_value, subst, sum_by-cons, sym, taken, taken_handles, then_some, update, with_effect}
+use Rattle.zl_calls.proofs.Common.{with_new, with_object, with_process, world_value, ℕ, ◌&&◌, ◌++◌, ◌+◌, ◌<◌, ◌==◌, ◌^◌, ◌∙◌, ◌∷◌, ◌≡◌}
 use Rattle.zl_code.proofs.Common.{Process as ProcessValue, State as StateValue}
-use Rattle.zl_code.specs.Jobs.{is_dead as is_dead_body}
+use Rattle.zl_code.specs.Jobs.{is_dead}
 use Rattle.zl_code.specs.declared.history.Outcome.TheVariants as outcome
 use Rattle.zl_rights.specs.declared.kind.Kind.TheVariants as kind
 use Rattle.zl_rights.specs.declared.status.Status.TheVariants as status
 use Rattle.zl_objects.specs.declared.object.Body.{Body}
 use Rattle.zl_objects.specs.declared.object.Body.TheVariants as body
 use Rattle.zl_objects.specs.declared.object.Life.TheVariants as life
-use Rattle.zl_objects.specs.Jobs.{action_of as action_at_job}
+use Rattle.zl_objects.specs.Jobs.{action_here}
 use Rattle.zl_rights.specs.Values.{Free, new_free}
 use Rattle.zl_calls.specs.World.{free_entry, free_of}
 use Rattle.zl_calls.specs.declared.process.Process.{Process}
@@ -61,7 +61,7 @@ module _ (lib : Library) (before : List Process) (r : Objects) (consistent : IsC
   abbrev old_world : World
   old_world = world_value before r
 
-  pub create_refused : refusal lib old_world p.pid (process_create job program) ≡ answers (create_refusal lib p.table.entries r job program)
+  pub create_refused : plain_refusal lib old_world p.pid (process_create job program) ≡ answers (create_refusal lib p.table.entries r job program)
   unfolding handle_operands operands_fault listed has_room has_koids
   create_refused =
       first_looked_up lib old_world p.pid p.table.entries (rw there refl) (process_create job program) (create_refusal lib p.table.entries r job program)
@@ -72,14 +72,14 @@ module _ (lib : Library) (before : List Process) (r : Objects) (consistent : IsC
       room = has_room_in p.table.entries && nat_le (r.next_koid + 1) (2 ^ 62)
 
       passes : (e : Entry) → IsJobAt r.objects e.koid → (o : Option Program)
-          → first_some (answer_if (not (is_some o)) status.InvalidArgs ∷ answer_if (is_dead_body (body_of old_world e.koid)) status.BadState
+          → first_some (answer_if (not (is_some o)) status.InvalidArgs ∷ answer_if (is_dead (body_of old_world e.koid)) status.BadState
           ∷ answer_if (lacks_need old_world e.koid o) status.NotSupported ∷ answer_if (not room) status.NoResources ∷ [])
-          ≡ answers (option_or (then_some (not (is_some o)) status.InvalidArgs) (option_or (then_some (is_dead (job_at r.objects e.koid)) status.BadState)
-          (option_or (then_some (needs_more (action_at_job (job_at r.objects e.koid)) o) status.NotSupported) (then_some (not room) status.NoResources))))
+          ≡ answers (option_or (then_some (not (is_some o)) status.InvalidArgs) (option_or (then_some (is_dead_here (job_at r.objects e.koid)) status.BadState)
+          (option_or (then_some (needs_more (action_here (job_at r.objects e.koid)) o) status.NotSupported) (then_some (not room) status.NoResources))))
       passes e at None = refl
       passes e at (Some x) =
           rw (body_seen before r e.koid at, job_found r.objects e.koid at)
-          (three_tests at.job.killed (needs_more (action_at_job (Some at.job)) (Some x)) (not room) status.BadState status.NotSupported status.NoResources)
+          (three_tests at.job.killed (needs_more (action_here (Some at.job)) (Some x)) (not room) status.BadState status.NotSupported status.NoResources)
 
 -- ---- a process is made
 
@@ -112,7 +112,7 @@ module _ (lib : Library) (before mid : List Process) (r : Objects) (consistent :
   abbrev w : World
   w = world_value before r
 
-  sound : IsSound before [] r
+  sound : AreSound before [] r
   sound = sound_of before r consistent
 
   above_there : IsJobAt r.objects above.koid
@@ -241,7 +241,7 @@ module _ (lib : Library) (before mid : List Process) (r : Objects) (consistent :
         none_yet None is = refl
         none_yet (Some q) is = absurd (omega (arith, pid, consistent.given_processes new.pid (rw (← is) refl)))
 
-    pub created_calls : new.table.free ≡ new_free → (c : Calls lib w p.pid create_site (outcome.Answered status.Ok) (world_value after grown))
+    pub created_calls : new.table.free ≡ new_free → (c : PlainCalls lib w p.pid create_site (outcome.Answered status.Ok) (world_value after grown))
         × (is_process w lives p.pid ≡ true → IsOwn before after r p.pid (process_create job program) c.0)
     unfolding gives_ok new_handles taken_handles handle_operands
     created_calls fresh = (

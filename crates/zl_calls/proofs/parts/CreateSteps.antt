@@ -2,7 +2,7 @@
 use Rattle.zl_calls.proofs.Common.{AreBlocked, AtCall, CallName, CreatesProcess, Entry, Err, IsActed, IsAnsweredIn, IsConsistent, IsRefusedBy, IsToldIn}
 use Rattle.zl_calls.proofs.Common.{Library, List, MANAGE_PROCESS, MakesOne, None, Objects, Ok, Outcome, Parts, ProcessCreateDoes, Replies, Result, Site, Some}
 use Rattle.zl_calls.proofs.Common.{Status, [], ap, cpu_answered, create_refusal, gives_refused, handle_operands, looked_up, next_for, next_looks, none-some}
-use Rattle.zl_calls.proofs.Common.{one_value, parts, process_create, process_value, refl, refusal, remove_all, same_Some, set, site, slice_get, slice_set}
+use Rattle.zl_calls.proofs.Common.{one_value, parts, plain_refusal, process_create, process_value, refl, remove_all, same_Some, set, site, slice_get, slice_set}
 use Rattle.zl_calls.proofs.Common.{status_of, subst, suc, sym, taken_handles, told_by, wants_memory, with_new, world_value, zero, ℕ, ◌++◌, ◌∙◌, ◌∷◌, ◌≡◌}
 use Rattle.zl_code.specs.declared.history.Outcome.TheVariants as outcome
 use Rattle.zl_code.specs.declared.history.TraceItem.TheVariants as item
@@ -17,7 +17,7 @@ use Rattle.zl_calls.proofs.calls.DoneCalls.{IsCalled, IsDone, called_done}
 use Rattle.zl_calls.proofs.step.OwnCalls.{call_beside}
 use Rattle.zl_calls.proofs.step.FromConsistent.{IsFree, call_settles}
 use Rattle.zl_calls.proofs.step.Performing.{AtTurn, HasLeft, acted_so, is_caller, itself, key, left_as, left_with, ready, unblocked, write_of}
-use Rattle.zl_calls.proofs.Common.{Calls, is_process, lives, true}
+use Rattle.zl_calls.proofs.Common.{PlainCalls, is_process, lives, true}
 use Rattle.zl_calls.proofs.calls.Owned.{IsOwn, IsOwnCall, own_call_of, own_refused}
 use Rattle.zl_calls.proofs.calls.Refused.{answers, refused_calls, refused_own}
 use Rattle.zl_calls.proofs.objects.Settled.{still_settles}
@@ -51,7 +51,7 @@ module _ {ps : List Process} {r : Objects} {blocked : List ℕ} {pid place : ℕ
   abbrev Left : Outcome → Type 0
   Left o = HasLeft lib ps all2.processes r all2.objects blocked all2.blocked pid (item.Call pid name o)
 
-  refused_here : refusal lib (world_value ps r) p.pid (process_create job program) ≡ answers (create_refusal lib p.table.entries r job program)
+  refused_here : plain_refusal lib (world_value ps r) p.pid (process_create job program) ≡ answers (create_refusal lib p.table.entries r job program)
   refused_here = create_refused lib ps r turn.consistent p (itself turn).there job program
 
   -- ---- it is refused
@@ -140,7 +140,7 @@ module _ {ps : List Process} {r : Objects} {blocked : List ℕ} {pid place : ℕ
         (has_left p.table.entries r.next_koid makes.unrefused) done.new done.pid done.created
         (unblocked turn) blocked turn.are
 
-    made_calls : (c : Calls lib (world_value ps r) p.pid s (outcome.Answered status.Ok) (world_value made_all made_grown))
+    made_calls : (c : PlainCalls lib (world_value ps r) p.pid s (outcome.Answered status.Ok) (world_value made_all made_grown))
         × (is_process (world_value ps r) lives p.pid ≡ true → IsOwn ps made_all r p.pid s.request c.0)
     made_calls = created_calls lib ps mid r turn.consistent p given write_mid same_state job program made above found_above unrefused makes.inserts
         (has_left p.table.entries r.next_koid makes.unrefused) done.new done.pid done.created consumed destinations replies done.fresh

@@ -1,12 +1,12 @@
 -- What process_create does where memory is wanted, from what its parts do.
 use Rattle.zl_calls.proofs.Common.{Bool, Entry, Err, Handles, IsRefusedBy, IsTrue, Library, List, MANAGE_PROCESS, MakeDoes, Map, None, Objects, Ok, Option}
 use Rattle.zl_calls.proofs.Common.{ProcessCreateDoes, Result, Some, Status, [], ap, create_refusal, create_refusal_of, false, get_or, get_or_from_slice_get}
-use Rattle.zl_calls.proofs.Common.{is_dead, is_some, job_at, looked_up, needs_more, none-some, not, option_or, parts, room_refusal, slice_get, slice_set, subst}
-use Rattle.zl_calls.proofs.Common.{sym, then_some, true, wants_memory, ℕ, ◌∙◌, ◌∷◌, ◌≡◌}
+use Rattle.zl_calls.proofs.Common.{is_dead_here, is_some, job_at, looked_up, needs_more, none-some, not, option_or, parts, room_refusal, slice_get, slice_set}
+use Rattle.zl_calls.proofs.Common.{subst, sym, then_some, true, wants_memory, ℕ, ◌∙◌, ◌∷◌, ◌≡◌}
 use Rattle.zl_rights.specs.declared.status.Status.TheVariants as status
 use Rattle.zl_rights.specs.declared.kind.Kind.TheVariants as kind
 use Rattle.zl_objects.specs.declared.object.Body.{Body}
-use Rattle.zl_objects.specs.Jobs.{action_of}
+use Rattle.zl_objects.specs.Jobs.{action_here}
 use Rattle.zl_calls.specs.declared.process.Process.{Process}
 use Rattle.zl_calls.proofs.lists.Updates.{set_read}
 
@@ -24,8 +24,8 @@ room_is_left lib entries r job program unrefused = by_job (looked_up entries job
 
     by_job : (x : Result Entry Status) → create_refusal_of lib entries r program x ≡ None → room_refusal entries r.next_koid ≡ None
     by_job (Err s) h = absurd (none-some s (sym h))
-    by_job (Ok e) h = by_tests (not (is_some (slice_get lib program))) (is_dead (job_at r.objects e.koid))
-        (needs_more (action_of (job_at r.objects e.koid)) (slice_get lib program)) (room_refusal entries r.next_koid) h
+    by_job (Ok e) h = by_tests (not (is_some (slice_get lib program))) (is_dead_here (job_at r.objects e.koid))
+        (needs_more (action_here (job_at r.objects e.koid)) (slice_get lib program)) (room_refusal entries r.next_koid) h
 
 module _ (lib : Library) (ps ps2 : List Process) (r : Objects) (blocked blocked2 : List ℕ) (place job program : ℕ) (same_ps : ps2 ≡ ps)
     (same_blocked : blocked2 ≡ blocked)

@@ -1,22 +1,22 @@
 -- The call task_kill, from what it did among all processes to the relation of steps, up to where processes wake.
 use Rattle.zl_calls.proofs.Common.{AreBlocked, AreLeft, AtCall, Bool, CallName, ClosesAllEnded, ClosesEnded, Cpu, DESTROY, Ended, Entry, IsConsistent, IsNamed}
 use Rattle.zl_calls.proofs.Common.{IsTrue, KILLED, KillsTask, Library, List, ListsWithout, Map, None, Objects, Ok, Option, Outcome, Parts, Ready, Releases}
-use Rattle.zl_calls.proofs.Common.{Site, Some, Values, World, [], all_koids, ap, arith, cases_Bool, count_by, cpu_answered, each, effect, ended}
-use Rattle.zl_calls.proofs.Common.{ended_within, eq-eqb, eqb-true, false, false≢true, filter, get, get-each, get-update, gives_ok, handle_operands, has_handle}
-use Rattle.zl_calls.proofs.Common.{if◌then◌else◌, in_order-each, inl, inr, insert_all, is_blocked, is_blocking, is_over, is_sorted, is_sorted-update, is_within}
+use Rattle.zl_calls.proofs.Common.{Site, Some, Values, World, [], all_koids, ap, arith, cases_Bool, count_by, cpu_answered, each, effect, ended, ended_within}
+use Rattle.zl_calls.proofs.Common.{eq-eqb, eqb-true, false, false≢true, filter, get, get-each, get-update, gives_ok, handle_operands, has_handle, if◌then◌else◌}
+use Rattle.zl_calls.proofs.Common.{in_order-each, inl, inr, insert_all, is_blocked, is_blocking, is_over, is_sorted, is_sorted-update, is_within_here}
 use Rattle.zl_calls.proofs.Common.{kill_refusal, killing, listed, lives, lives_on, looked_up, map, may_choose, nat_cmp, nat_tests, new_handles, next_for}
 use Rattle.zl_calls.proofs.Common.{none-some, not, object_at, object_entry, object_killed, on_process, one_more, operands_fault, option_map, parts}
-use Rattle.zl_calls.proofs.Common.{process_ended, process_entry, process_killed, process_value, refl, refusal, releases_then, remove_all, replied, result_err}
-use Rattle.zl_calls.proofs.Common.{same_Some, settles_waiting, site, slice_get, slice_set, state_passes, state_value, subst, suc, sum_by, sym, table_of, taken}
-use Rattle.zl_calls.proofs.Common.{taken_handles, task_kill, times, true, update, with_waiters, world_blocked, world_value, zero, ℕ, ℤ, ◌&&◌, ◌+◌, ◌<◌, ◌==◌}
-use Rattle.zl_calls.proofs.Common.{◌^◌, ◌∙◌, ◌∷◌, ◌≡◌, ◌⊎◌}
+use Rattle.zl_calls.proofs.Common.{plain_refusal, process_ended, process_entry, process_killed, process_value, refl, releases_then, remove_all, replied}
+use Rattle.zl_calls.proofs.Common.{result_err, same_Some, settles_waiting, site, slice_get, slice_set, state_passes, state_value, subst, suc, sum_by, sym}
+use Rattle.zl_calls.proofs.Common.{table_of, taken, taken_handles, task_kill, times, true, update, with_waiters, world_blocked, world_value, zero, ℕ, ℤ, ◌&&◌}
+use Rattle.zl_calls.proofs.Common.{◌+◌, ◌<◌, ◌==◌, ◌^◌, ◌∙◌, ◌∷◌, ◌≡◌, ◌⊎◌}
 use Rattle.zl_rights.specs.declared.kind.Kind.TheVariants as kind
 use Rattle.zl_rights.specs.declared.status.Status.TheVariants as status
 use Rattle.zl_code.proofs.Common.{Process as ProcessValue, State as StateValue}
-use Rattle.zl_code.specs.Calls.{Calls as PolicedCalls, ok_outcome}
-use Rattle.zl_code.specs.Refusals.{refusal as policed_refusal}
-use Rattle.zl_code.specs.Jobs.{is_within as is_within_value, with_killed}
-use Rattle.zl_code.specs.Sound.{IsSound as IsSoundWorld}
+use Rattle.zl_code.specs.Calls.{Calls, ok_outcome}
+use Rattle.zl_code.specs.Refusals.{refusal}
+use Rattle.zl_code.specs.Jobs.{is_within, with_killed}
+use Rattle.zl_code.specs.Sound.{IsSound}
 use Rattle.zl_code.specs.declared.history.Outcome.TheVariants as outcome
 use Rattle.zl_objects.specs.Jobs.{all_killed}
 use Rattle.zl_calls.specs.declared.process.Process.{Process}
@@ -56,7 +56,7 @@ use Rattle.zl_calls.specs.Own.{FreeBy}
 -- ---- the answer
 
 module _ (lib : Library) (w : World) (pid : ℕ) (entries : Map Entry) (table : table_of w pid ≡ entries) (task : ℕ) where
-  pub kill_refused : refusal lib w pid (task_kill task) ≡ answers (kill_refusal entries task)
+  pub kill_refused : plain_refusal lib w pid (task_kill task) ≡ answers (kill_refusal entries task)
   unfolding handle_operands operands_fault listed
   kill_refused =
       first_looked_up lib w pid entries table (task_kill task) (kill_refusal entries task) task (kind.Process ∷ kind.Job ∷ []) DESTROY None refl
@@ -98,10 +98,10 @@ place_stays f same (x ∷ ps) _ _ a b is (one_more q q2 qs qs2 _ mid _ one rest)
     let others : qs ≡ map f ps = cc in
     place_stays f same ps qs qs2 mid b others rest n p c here at
 
-module _ (ps : List Process) (r : Objects) (whole : IsConsistent ps r) (blocked : List ℕ) (sound : IsSoundWorld (world_blocked ps r blocked))
+module _ (ps : List Process) (r : Objects) (whole : IsConsistent ps r) (blocked : List ℕ) (sound : IsSound (world_blocked ps r blocked))
     (t : ℕ) (some : (t == 0) ≡ false) where
   abbrev within : ℕ → Bool
-  within = is_within r.objects t
+  within = is_within_here r.objects t
 
   module _ (all2 : Parts) (kills : KillsTask (parts ps r blocked) t all2) where
     abbrev ps2 : List Process
@@ -111,7 +111,7 @@ module _ (ps : List Process) (r : Objects) (whole : IsConsistent ps r) (blocked 
     r2 = all2.objects
 
     -- what the definitions see of the processes
-    pub seen_killed : map process_entry ps2 ≡ each (λ k. process_killed (is_within_value (map object_entry r.objects) t k)) (map process_entry ps)
+    pub seen_killed : map process_entry ps2 ≡ each (λ k. process_killed (is_within (map object_entry r.objects) t k)) (map process_entry ps)
     seen_killed = processes_killed ps ps2 r kills.between r2 t some (are_closed ps r blocked whole.processes_in_order sound) kills.closes
 
     all_named : AllTables (λ e. IsNamed (all_killed r.objects t) e) ps
@@ -142,7 +142,7 @@ module _ (ps : List Process) (r : Objects) (whole : IsConsistent ps r) (blocked 
     unfolding with_killed
     killed_world are = λ i. record (world_blocked ps r blocked) { processes = seen_killed i; objects = objects_killed r.objects t some i; blocked = list_is i }
       where
-        list_is : all2.blocked ≡ filter (λ k. not (is_within_value (map object_entry r.objects) t k)) blocked
+        list_is : all2.blocked ≡ filter (λ k. not (is_within (map object_entry r.objects) t k)) blocked
         list_is =
             kills.blocked ∙ ((λ i. filter (λ k. states_stay (map (ended_within r t) ps) ps2 kills.between r2 kills.closes is_blocked k i) blocked)
             ∙ blocked_left ps r blocked t ps2 are seen_killed)
@@ -150,23 +150,23 @@ module _ (ps : List Process) (r : Objects) (whole : IsConsistent ps r) (blocked 
     pub still_sorted : IsTrue (is_sorted nat_cmp (map process_entry ps2))
     still_sorted =
         rw seen_killed
-        (rw (in_order-each (map process_entry ps) (λ k. process_killed (is_within_value (map object_entry r.objects) t k))) whole.processes_in_order)
+        (rw (in_order-each (map process_entry ps) (λ k. process_killed (is_within (map object_entry r.objects) t k))) whole.processes_in_order)
 
     -- what stands at each koid
     pub got_killed : (k : ℕ) → get (map process_entry ps2) k ≡ option_map (process_killed (within k)) (get (map process_entry ps) k)
     got_killed k =
-        ap (λ m. get m k) seen_killed ∙ (get-each (map process_entry ps) (λ j. process_killed (is_within_value (map object_entry r.objects) t j)) k
+        ap (λ m. get m k) seen_killed ∙ (get-each (map process_entry ps) (λ j. process_killed (is_within (map object_entry r.objects) t j)) k
         ∙ ap (λ (b : Bool). option_map (process_killed b) (get (map process_entry ps) k)) (same_within r.objects t some k))
 
 -- ---- the end of a step
 
-module _ (lib : Library) (ps : List Process) (r : Objects) (blocked : List ℕ) (sound : IsSoundWorld (world_blocked ps r blocked)) (p : Process)
+module _ (lib : Library) (ps : List Process) (r : Objects) (blocked : List ℕ) (sound : IsSound (world_blocked ps r blocked)) (p : Process)
     (there : get (map process_entry ps) p.pid ≡ Some (process_value p)) (ready : state_value p.state ≡ Ready) (name : CallName) (s : Site)
     (next : next_for lib (process_value p) ≡ AtCall name s) where
   -- a call behind which this is left, in the midst of all that waits
   pub leaves_so : (after : List Process) (r1 r2 : Objects) (blocked2 : List ℕ) (o : Outcome) → is_blocking o ≡ false → IsSettled after r1 r2
       → AreBlocked after blocked2 → AreLeft blocked blocked2
-      → (calls : PolicedCalls lib (world_blocked ps r blocked) p.pid s o (with_waiters (world_value after r1) r.waits r.waits_made blocked2))
+      → (calls : Calls lib (world_blocked ps r blocked) p.pid s o (with_waiters (world_value after r1) r.waits r.waits_made blocked2))
       → IsOwn ps after r p.pid s.request calls.0 → ListsLeft (left_all after r2) r.waits r.waits_made r r2
       → HasLeft lib ps after r r2 blocked blocked2 p.pid (item.Call p.pid name o)
   leaves_so after r1 r2 blocked2 o goes left list fewer calls own lists =
@@ -244,11 +244,11 @@ was_blocked true q h = elim (cases_Bool (lives q.state)) as (λ _. process_kille
 ]
 
 module _ (lib : Library) (ps : List Process) (r : Objects) (whole : IsConsistent ps r) (blocked : List ℕ) (are : AreBlocked ps blocked)
-    (sound : IsSoundWorld (world_blocked ps r blocked)) (place : ℕ) (p : Process)
+    (sound : IsSound (world_blocked ps r blocked)) (place : ℕ) (p : Process)
     (here : slice_get ps place ≡ Some p) (there : get (map process_entry ps) p.pid ≡ Some (process_value p)) (ready : state_value p.state ≡ Ready)
     (name : CallName) (task : ℕ) (consumed destinations : List ℕ)
     (next : next_for lib (process_value p) ≡ AtCall name (site (task_kill task) consumed destinations))
-    (free : policed_refusal lib (world_blocked ps r blocked) p.pid (task_kill task) ≡ refusal lib (world_blocked ps r blocked) p.pid (task_kill task)) where
+    (free : refusal lib (world_blocked ps r blocked) p.pid (task_kill task) ≡ plain_refusal lib (world_blocked ps r blocked) p.pid (task_kill task)) where
   abbrev w : World
   w = world_blocked ps r blocked
 
@@ -268,7 +268,7 @@ module _ (lib : Library) (ps : List Process) (r : Objects) (whole : IsConsistent
         let above : 0 < t = whole.no_zero t (rw names.there refl) in
         grind (arith, nat_tests, above)
 
-    passes : policed_refusal lib w p.pid (task_kill task) ≡ None
+    passes : refusal lib w p.pid (task_kill task) ≡ None
     passes = free ∙ (kill_refused lib w p.pid p.table.entries (rw there refl) task ∙ ap (λ x. answers (result_err x)) is_named)
 
     names_it : object_at w p.pid task ≡ t
@@ -292,22 +292,22 @@ module _ (lib : Library) (ps : List Process) (r : Objects) (whole : IsConsistent
             ≡ (if state_passes is_blocked (get (map process_entry all2.processes) k) then 1 else 0)
         by_state k None at = rw (got_killed ps r whole blocked sound t given all2 kills k, at) refl
         by_state k (Some q) at =
-            elim (cases_Bool (is_blocked (process_killed (is_within r.objects t k) q).state))
+            elim (cases_Bool (is_blocked (process_killed (is_within_here r.objects t k) q).state))
             as (λ _. (if state_passes is_blocked (get (map process_entry all2.processes) k) then times k blocked else 0)
             ≡ (if state_passes is_blocked (get (map process_entry all2.processes) k) then 1 else 0)) [
               | inl waits ↦
                   let still : is_blocked q.state ≡ true =
-                  ap (λ (x : ProcessValue). is_blocked x.state) (sym (was_blocked (is_within r.objects t k) q waits)) ∙ waits in
+                  ap (λ (x : ProcessValue). is_blocked x.state) (sym (was_blocked (is_within_here r.objects t k) q waits)) ∙ waits in
                   rw (got_killed ps r whole blocked sound t given all2 kills k, at, waits) (are.once k ∙ rw (at, still) refl)
               | inr goes ↦ rw (got_killed ps r whole blocked sound t given all2 kills k, at, goes) refl
             ]
 
         by_process : (k : ℕ) (o : Option ProcessValue) → get (map process_entry ps) k ≡ o → (q : ProcessValue)
-            → option_map (process_killed (is_within r.objects t k)) o ≡ Some q → IsTrue (is_blocked q.state) → q.cpu.counter < 2 ^ 32
+            → option_map (process_killed (is_within_here r.objects t k)) o ≡ Some q → IsTrue (is_blocked q.state) → q.cpu.counter < 2 ^ 32
         by_process k None at q is h = absurd (none-some q is)
         by_process k (Some x) at q is h =
-            let became : process_killed (is_within r.objects t k) x ≡ q = same_Some (process_killed (is_within r.objects t k) x) q is in
-            let same : x ≡ q = sym (was_blocked (is_within r.objects t k) x (ap (λ (y : ProcessValue). is_blocked y.state) became ∙ h)) ∙ became in
+            let became : process_killed (is_within_here r.objects t k) x ≡ q = same_Some (process_killed (is_within_here r.objects t k) x) q is in
+            let same : x ≡ q = sym (was_blocked (is_within_here r.objects t k) x (ap (λ (y : ProcessValue). is_blocked y.state) became ∙ h)) ∙ became in
             are.counters k q (at ∙ ap Some same) h
 
     fewer_blocked : AreLeft blocked all2.blocked
@@ -322,19 +322,19 @@ module _ (lib : Library) (ps : List Process) (r : Objects) (whole : IsConsistent
 
     -- the caller is among the killed, or it isn't
     abbrev dies : Bool
-    dies = is_within r.objects t p.pid
+    dies = is_within_here r.objects t p.pid
 
     stands : get (map process_entry all2.processes) p.pid ≡ Some (process_killed dies (process_value p))
     stands = got_killed ps r whole blocked sound t given all2 kills p.pid ∙ rw there refl
 
     abbrev within_value : ℕ → Bool
-    within_value k = is_within_value (map object_entry r.objects) t k
+    within_value k = is_within (map object_entry r.objects) t k
 
     -- what is seen of the process at the place
     at_place : (c : Process) → slice_get all2.processes place ≡ Some c → (c.pid ≡ p.pid) × (process_value c ≡ process_killed dies (process_value p))
     at_place c at =
         let same : c.pid ≡ p.pid =
-        place_stays (ended_within r t) (λ x. ends_pid (lives (state_value x.state) && is_within r.objects t x.pid) x) ps
+        place_stays (ended_within r t) (λ x. ends_pid (lives (state_value x.state) && is_within_here r.objects t x.pid) x) ps
         (map (ended_within r t) ps) all2.processes kills.between all2.objects refl kills.closes place p c here at in
         let write : IsWrite all2.processes (slice_set all2.processes place c) c c =
         writes_at all2.processes place c c (still_sorted ps r whole blocked sound t given all2 kills) at refl in (
@@ -385,7 +385,7 @@ module _ (lib : Library) (ps : List Process) (r : Objects) (whole : IsConsistent
         unchanged k (inr other) = rw other refl
 
     killed_calls : dies ≡ true
-        → (c : PolicedCalls lib w p.pid kill_site (outcome.Ended KILLED)
+        → (c : Calls lib w p.pid kill_site (outcome.Ended KILLED)
         (with_waiters (world_value all2.processes (killing r t)) r.waits r.waits_made all2.blocked))
         × IsOwn ps all2.processes r p.pid (task_kill task) c.0
     unfolding effect gives_ok new_handles taken_handles handle_operands remove_all insert_all
@@ -396,14 +396,14 @@ module _ (lib : Library) (ps : List Process) (r : Objects) (whole : IsConsistent
 
     -- all has settled, though one goes on computing with another Cpu
     killed_got : (cpus : ℕ → ProcessValue → Cpu) (k : ℕ) → ((q : ProcessValue) → get (map process_entry ps) k ≡ Some q → cpus k q ≡ q.cpu)
-        → get (map process_entry all2.processes) k ≡ option_map (killed_with (is_within r.objects t) cpus k) (get (map process_entry ps) k)
+        → get (map process_entry all2.processes) k ≡ option_map (killed_with (is_within_here r.objects t) cpus k) (get (map process_entry ps) k)
     killed_got cpus k same = got_killed ps r whole blocked sound t given all2 kills k ∙ by_process (get (map process_entry ps) k) refl
       where
         by_process : (o : Option ProcessValue) → get (map process_entry ps) k ≡ o
-            → option_map (process_killed (is_within r.objects t k)) o ≡ option_map (killed_with (is_within r.objects t) cpus k) o
+            → option_map (process_killed (is_within_here r.objects t k)) o ≡ option_map (killed_with (is_within_here r.objects t) cpus k) o
         by_process None at = refl
         by_process (Some q) at =
-            ap Some (cpu_stays (is_within r.objects t k) q ∙ (λ i. record (process_killed (is_within r.objects t k) q) { cpu = sym (same q at) i }))
+            ap Some (cpu_stays (is_within_here r.objects t k) q ∙ (λ i. record (process_killed (is_within_here r.objects t k) q) { cpu = sym (same q at) i }))
 
     pub dies_so : (c : Process) (code : ℤ) → slice_get all2.processes place ≡ Some c → c.state ≡ state.Ended code
         → HasLeft lib ps all2.processes r all2.objects blocked all2.blocked p.pid (item.Call p.pid name (outcome.Ended code))
@@ -461,12 +461,12 @@ module _ (lib : Library) (ps : List Process) (r : Objects) (whole : IsConsistent
       abbrev cpus : ℕ → ProcessValue → Cpu
       cpus k q = if p.pid == k then cpu_answered kill_site status.Ok [] q.cpu else q.cpu
 
-      after_got : (k : ℕ) → get (map process_entry after) k ≡ option_map (killed_with (is_within r.objects t) cpus k) (get (map process_entry ps) k)
+      after_got : (k : ℕ) → get (map process_entry after) k ≡ option_map (killed_with (is_within_here r.objects t) cpus k) (get (map process_entry ps) k)
       after_got k = ap (λ m. get m k) written ∙ (get-update (map process_entry all2.processes) p.pid with_answer k ∙ by_key (cases_Bool (p.pid == k)))
         where
           by_key : (IsTrue (p.pid == k)) ⊎ ((p.pid == k) ≡ false)
               → (if p.pid == k then option_map with_answer (get (map process_entry all2.processes) k) else get (map process_entry all2.processes) k)
-              ≡ option_map (killed_with (is_within r.objects t) cpus k) (get (map process_entry ps) k)
+              ≡ option_map (killed_with (is_within_here r.objects t) cpus k) (get (map process_entry ps) k)
           by_key (inl here_too) = rw (here_too, ← eqb-true p.pid k here_too, stands, there, apart, eq-eqb p.pid p.pid refl) refl
           by_key (inr other) =
               (λ i. if other i then option_map with_answer (get (map process_entry all2.processes) k) else get (map process_entry all2.processes) k)
@@ -483,7 +483,7 @@ module _ (lib : Library) (ps : List Process) (r : Objects) (whole : IsConsistent
       after_sorted = rw (written, is_sorted-update (map process_entry all2.processes) p.pid with_answer)
           (still_sorted ps r whole blocked sound t given all2 kills)
 
-      answered_calls : (c : PolicedCalls lib w p.pid kill_site (outcome.Answered status.Ok)
+      answered_calls : (c : Calls lib w p.pid kill_site (outcome.Answered status.Ok)
           (with_waiters (world_value after (killing r t)) r.waits r.waits_made all2.blocked)) × IsOwn ps after r p.pid (task_kill task) c.0
       unfolding effect gives_ok new_handles taken_handles handle_operands remove_all insert_all replied on_process
       answered_calls = (

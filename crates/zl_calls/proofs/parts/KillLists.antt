@@ -2,11 +2,11 @@
 use Rattle.zl_calls.proofs.Common.{AreClosed, AreClosedBut, Bool, ClosesAllEnded, ClosesEnded, Drained, Entry, IfNone, IsClosed, IsTrue, List, Map, None}
 use Rattle.zl_calls.proofs.Common.{Objects, Option, Some, StandsBefore, [], ap, arith, below_all, below_parts, cases_Bool, cases_lt, ended_among, ended_if}
 use Rattle.zl_calls.proofs.Common.{ended_within, eq-eqb, eqb-true, false, false≢true, get, get_or, get_or_from_slice_get, if◌then◌else◌, inl, inr, is_over}
-use Rattle.zl_calls.proofs.Common.{is_sorted, is_within, length, list_any-append, lives, lives_on, map, nat_cmp, nat_tests, none-some, position, process_entry}
-use Rattle.zl_calls.proofs.Common.{process_value, refl, same_Some, set, slice_get, slice_get-get_or, sorted_parts, state_value, subst, suc, sym, true, zero, ℕ}
-use Rattle.zl_calls.proofs.Common.{◌&&◌, ◌++◌, ◌+◌, ◌-◌, ◌<◌, ◌==◌, ◌||◌, ◌∙◌, ◌∷◌, ◌≡◌, ◌≤◌, ◌⊎◌}
+use Rattle.zl_calls.proofs.Common.{is_sorted, is_within_here, length, list_any-append, lives, lives_on, map, nat_cmp, nat_tests, none-some, position}
+use Rattle.zl_calls.proofs.Common.{process_entry, process_value, refl, same_Some, set, slice_get, slice_get-get_or, sorted_parts, state_value, subst, suc, sym}
+use Rattle.zl_calls.proofs.Common.{true, zero, ℕ, ◌&&◌, ◌++◌, ◌+◌, ◌-◌, ◌<◌, ◌==◌, ◌||◌, ◌∙◌, ◌∷◌, ◌≡◌, ◌≤◌, ◌⊎◌}
 use Rattle.std.specs.List.Sorted.{IsNonDecreasing}
-use Rattle.zl_objects.specs.Below.{HasTask, is_among}
+use Rattle.zl_objects.specs.Below.{HasTask, is_one_of}
 use Rattle.zl_calls.specs.calls.Process.{none_left as none_drained}
 use Rattle.zl_calls.specs.declared.process.Process.{Process}
 use Rattle.zl_calls.proofs.lists.Positions.{IsFirst, first_at}
@@ -26,28 +26,29 @@ map_then g f h same (x ∷ xs) = λ i. same x i ∷ map_then g f h same xs i
 
 module _ (r : Objects) (task : ℕ) where
   ended_twice : (p : Process) → ended_within r task (ended_within r task p) ≡ ended_within r task p
-  ended_twice p = by (lives (state_value p.state) && is_within r.objects task p.pid) refl
+  ended_twice p = by (lives (state_value p.state) && is_within_here r.objects task p.pid) refl
     where
-      by : (b : Bool) → lives (state_value p.state) && is_within r.objects task p.pid ≡ b → ended_within r task (ended_within r task p) ≡ ended_within r task p
+      by : (b : Bool) → lives (state_value p.state) && is_within_here r.objects task p.pid ≡ b
+          → ended_within r task (ended_within r task p) ≡ ended_within r task p
       by true is = let e : ended_within r task p ≡ ended_if true p = ap (λ (b : Bool). ended_if b p) is in ap (ended_within r task) e ∙ sym e
       by false is = let e : ended_within r task p ≡ p = ap (λ (b : Bool). ended_if b p) is in ap (ended_within r task) e
 
   one_more_among : (ks : List ℕ) (k : ℕ) (p : Process) → ended_among r task (k ∷ []) (ended_among r task ks p) ≡ ended_among r task (ks ++ k ∷ []) p
-  one_more_among ks k p = by (is_among p.pid ks) refl
+  one_more_among ks k p = by (is_one_of p.pid ks) refl
     where
-      joined : (b : Bool) → is_among p.pid ks ≡ b → ended_among r task (ks ++ k ∷ []) p ≡ (if b || is_among p.pid (k ∷ []) then ended_within r task p else p)
+      joined : (b : Bool) → is_one_of p.pid ks ≡ b → ended_among r task (ks ++ k ∷ []) p ≡ (if b || is_one_of p.pid (k ∷ []) then ended_within r task p else p)
       joined b is =
           ap (λ (c : Bool). if c then ended_within r task p else p)
-          (list_any-append (λ x. x == p.pid) ks (k ∷ []) ∙ ap (λ (c : Bool). c || is_among p.pid (k ∷ [])) is)
+          (list_any-append (λ x. x == p.pid) ks (k ∷ []) ∙ ap (λ (c : Bool). c || is_one_of p.pid (k ∷ [])) is)
 
       again : (c : Bool) → (if c then ended_within r task (ended_within r task p) else ended_within r task p) ≡ ended_within r task p
       again true = ended_twice p
       again false = refl
 
-      by : (b : Bool) → is_among p.pid ks ≡ b → ended_among r task (k ∷ []) (ended_among r task ks p) ≡ ended_among r task (ks ++ k ∷ []) p
+      by : (b : Bool) → is_one_of p.pid ks ≡ b → ended_among r task (k ∷ []) (ended_among r task ks p) ≡ ended_among r task (ks ++ k ∷ []) p
       by true is =
           ap (λ (c : Bool). ended_among r task (k ∷ []) (if c then ended_within r task p else p)) is
-          ∙ (again (is_among (ended_within r task p).pid (k ∷ [])) ∙ sym (joined true is))
+          ∙ (again (is_one_of (ended_within r task p).pid (k ∷ [])) ∙ sym (joined true is))
       by false is = ap (λ (c : Bool). ended_among r task (k ∷ []) (if c then ended_within r task p else p)) is ∙ sym (joined false is)
 
   pub none_ended : (ps : List Process) → ps ≡ map (ended_among r task []) ps
@@ -61,7 +62,7 @@ module _ (r : Objects) (task : ℕ) where
       ∙ map_then (ended_among r task (k ∷ [])) (ended_among r task ks) (ended_among r task (ks ++ k ∷ [])) (one_more_among ks k) ps)
 
   -- who isn't to end stays
-  spared : (p : Process) → is_within r.objects task p.pid ≡ false → ended_within r task p ≡ p
+  spared : (p : Process) → is_within_here r.objects task p.pid ≡ false → ended_within r task p ≡ p
   spared p out = ap (λ (b : Bool). ended_if (lives (state_value p.state) && b) p) out ∙ none (lives (state_value p.state))
     where
       none : (b : Bool) → ended_if (b && false) p ≡ p
@@ -69,19 +70,19 @@ module _ (r : Objects) (task : ℕ) where
       none false = refl
 
   module _ (ks : List ℕ) (has : HasTask r.objects task ks) where
-    not_listed : (k : ℕ) → is_among k ks ≡ false → is_within r.objects task k ≡ false
-    not_listed k out = by (is_within r.objects task k) refl
+    not_listed : (k : ℕ) → is_one_of k ks ≡ false → is_within_here r.objects task k ≡ false
+    not_listed k out = by (is_within_here r.objects task k) refl
       where
-        by : (b : Bool) → is_within r.objects task k ≡ b → is_within r.objects task k ≡ false
+        by : (b : Bool) → is_within_here r.objects task k ≡ b → is_within_here r.objects task k ≡ false
         by true is = absurd (false≢true (sym out ∙ has.within k is))
         by false is = is
 
     -- all who are to end are listed
     pub all_ended : (ps : List Process) → map (ended_among r task ks) ps ≡ map (ended_within r task) ps
     all_ended [] = refl
-    all_ended (p ∷ ps) = λ i. one p (is_among p.pid ks) refl i ∷ all_ended ps i
+    all_ended (p ∷ ps) = λ i. one p (is_one_of p.pid ks) refl i ∷ all_ended ps i
       where
-        one : (p : Process) (b : Bool) → is_among p.pid ks ≡ b → ended_among r task ks p ≡ ended_within r task p
+        one : (p : Process) (b : Bool) → is_one_of p.pid ks ≡ b → ended_among r task ks p ≡ ended_within r task p
         one p true is = ap (λ (c : Bool). if c then ended_within r task p else p) is
         one p false is = ap (λ (c : Bool). if c then ended_within r task p else p) is ∙ sym (spared p (not_listed p.pid is))
 
@@ -95,7 +96,7 @@ module _ (r : Objects) (task : ℕ) where
         by_place (x ∷ xs) zero here before =
             let became : ended_within r task x ≡ q = same_Some (ended_within r task x) q here in
             let pid : q.pid ≡ x.pid = ap (λ (p : Process). p.pid) (sym became) ∙ ends_pid _ x in
-            subst IsClosed (sym (spared x (not_listed x.pid (ap (λ (k : ℕ). is_among k ks) (sym pid) ∙ out))) ∙ became) (before x refl)
+            subst IsClosed (sym (spared x (not_listed x.pid (ap (λ (k : ℕ). is_one_of k ks) (sym pid) ∙ out))) ∙ became) (before x refl)
         by_place (x ∷ xs) (suc m) here before = by_place xs m here before
 
 -- ---- the one process with a koid
@@ -103,7 +104,7 @@ module _ (r : Objects) (task : ℕ) where
 module _ (f : Process → Process) (k : ℕ) where
   -- f at the process k
   abbrev at_koid : Process → Process
-  at_koid p = if is_among p.pid (k ∷ []) then f p else p
+  at_koid p = if is_one_of p.pid (k ∷ []) then f p else p
 
   turned : (n : ℕ) → (n == k) ≡ false → (k == n) ≡ false
   turned n apart = grind (arith, nat_tests, apart)
@@ -195,7 +196,7 @@ stays_closed p r closed = by (lives (state_value p.state)) refl
         }
 
 -- one that is among these stands at a place of the list
-found_among : (k : ℕ) (ks : List ℕ) → IsTrue (is_among k ks) → (j : ℕ) × (j < length ks) × (k ≡ get_or ks j 0)
+found_among : (k : ℕ) (ks : List ℕ) → IsTrue (is_one_of k ks) → (j : ℕ) × (j < length ks) × (k ≡ get_or ks j 0)
 found_among k [] h = absurd (false≢true h)
 found_among k (x ∷ ks) h = elim (cases_Bool (x == k)) as (λ _. (j : ℕ) × (j < length (x ∷ ks)) × (k ≡ get_or (x ∷ ks) j 0)) [
   | inl here ↦ (0, omega arith, sym (eqb-true x k here))
@@ -241,8 +242,8 @@ module _ (first : List Process) (start : Objects) (ks : List ℕ) where
         subst (λ (n : ℕ). IsClosing first start n ps r) m.1 (skips ps r m.0 from so_far.closing (omega (arith, within, m.1))
         (λ n p after before at. others n p (sym (so_far.alike n after) ∙ at) (unlisted n p after (omega (arith, before, m.1)) at)))
       where
-        unlisted : (n : ℕ) (p : Process) → from ≤ n → n < to → slice_get ps n ≡ Some p → is_among p.pid ks ≡ false
-        unlisted n p after before at = elim (cases_Bool (is_among p.pid ks)) as (λ _. is_among p.pid ks ≡ false) [
+        unlisted : (n : ℕ) (p : Process) → from ≤ n → n < to → slice_get ps n ≡ Some p → is_one_of p.pid ks ≡ false
+        unlisted n p after before at = elim (cases_Bool (is_one_of p.pid ks)) as (λ _. is_one_of p.pid ks ≡ false) [
           | inl among ↦
               let found = found_among p.pid ks among in
               absurd (by_place found.0 found.1 found.2 (cases_lt found.0 i))

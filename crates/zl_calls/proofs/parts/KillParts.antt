@@ -1,9 +1,9 @@
 -- What a kill makes of the list of processes: koids stay, and each process that is over closes its handles in turn.
 use Rattle.zl_calls.proofs.Common.{Bool, ClosesAllEnded, ClosesEnded, DESTROY, Entry, IsCallerStill, KeepsListed, LeavesListed, List, Map, None, Objects, Ok}
 use Rattle.zl_calls.proofs.Common.{Option, Releases, Result, Some, Status, TaskKillDoes, [], all_koids, ap, arith, drop, each, ended_if, ended_within, false}
-use Rattle.zl_calls.proofs.Common.{get, get-each, get_or, get_or_from_slice_get, has_key, is_blocked, is_over, is_some, is_within, killed_if, killing, length}
-use Rattle.zl_calls.proofs.Common.{length-map, lives_on, looked_up, map, none-some, one_more, option_map, parts, process_entry, refl, same_Some, set, slice_get}
-use Rattle.zl_calls.proofs.Common.{slice_get-map, state_passes, subst, suc, sym, take, true, zero, ℕ, ◌++◌, ◌+◌, ◌<◌, ◌∙◌, ◌∷◌, ◌≡◌, ◌≤◌}
+use Rattle.zl_calls.proofs.Common.{get, get-each, get_or, get_or_from_slice_get, has_key, is_blocked, is_over, is_some, is_within_here, killed_if, killing}
+use Rattle.zl_calls.proofs.Common.{length, length-map, lives_on, looked_up, map, none-some, one_more, option_map, parts, process_entry, refl, same_Some, set}
+use Rattle.zl_calls.proofs.Common.{slice_get, slice_get-map, state_passes, subst, suc, sym, take, true, zero, ℕ, ◌++◌, ◌+◌, ◌<◌, ◌∙◌, ◌∷◌, ◌≡◌, ◌≤◌}
 use Rattle.zl_calls.specs.declared.process.Process.{Process}
 use Rattle.zl_calls.specs.calls.Task.{none_left}
 use Rattle.zl_calls.proofs.lists.FilterInPlace.{drop_here}
@@ -84,7 +84,7 @@ listed_killed r r2 task releases left =
     let kept : KeepsListed (killing r task) r2 =
     listed_gone [] (all_koids r.objects) (killing r task) r2 releases (record { waits = left.waits; made = left.made; asleep = left.asleep }) in
     record {
-      shrinks = λ k there. sym (has_kept (λ j. killed_if (is_within r.objects task j)) r.objects k) ∙ kept.shrinks k there;
+      shrinks = λ k there. sym (has_kept (λ j. killed_if (is_within_here r.objects task j)) r.objects k) ∙ kept.shrinks k there;
       older = kept.older;
       listed = record { waits = kept.listed.waits; made = kept.listed.made; asleep = kept.listed.asleep };
     }

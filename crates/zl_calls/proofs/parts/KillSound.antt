@@ -1,18 +1,18 @@
 -- A kill: the handles of all who end count still and are in no table, and the invariant holds but for what keeps the objects.
-use Rattle.zl_calls.proofs.Common.{Agrees, AreKeptBut, AreNamed, Bool, ClosesAllEnded, ClosesEnded, Cpu, Ended, Entry, Gone, IsConsistent, IsNamed, IsSound}
+use Rattle.zl_calls.proofs.Common.{Agrees, AreKeptBut, AreNamed, AreSound, Bool, ClosesAllEnded, ClosesEnded, Cpu, Ended, Entry, Gone, IsConsistent, IsNamed}
 use Rattle.zl_calls.proofs.Common.{IsTable, IsTrue, KILLED, Life, List, Map, None, Objects, Option, Releases, Some, [], all_koids, and_from, ap, arith}
 use Rattle.zl_calls.proofs.Common.{below_all, body_value, cases_Bool, cond, count_by, each, ended_if, ended_within, eq-eqb, false, false≢true, get, get-each}
-use Rattle.zl_calls.proofs.Common.{handles_to, has_ended, has_key, if◌then◌else◌, in_order-each, inl, inr, is_in_job, is_job_at, is_job_body, is_job_in}
-use Rattle.zl_calls.proofs.Common.{is_over, is_process, is_some, is_sorted, is_within, killed_body, killed_if, killing, kind_of, list_any, lives, lives_on, map}
-use Rattle.zl_calls.proofs.Common.{nat_cmp, nat_tests, none-some, not, object_entry, one_more, option_map, or_left, or_right, process_entry, process_killed}
-use Rattle.zl_calls.proofs.Common.{process_value, queued_to, refl, releases_then, runs, same_Some, same_in_job, sorted_parts, state_passes, subst, suc, sum_by}
-use Rattle.zl_calls.proofs.Common.{sum_by-append, sum_by-cons, sym, true, world_value, ℕ, ⊤, ◌++◌, ◌+◌, ◌<◌, ◌==◌, ◌||◌, ◌∙◌, ◌∷◌, ◌≡◌}
-use Rattle.zl_code.proofs.Common.{Process as ProcessValue, State as StateValue}
+use Rattle.zl_calls.proofs.Common.{handles_to, has_ended, has_key, if◌then◌else◌, in_order-each, inl, inr, is_in_job, is_job_at, is_job_here, is_job_in}
+use Rattle.zl_calls.proofs.Common.{is_over, is_process, is_some, is_sorted, is_within_here, killed_body, killed_if, killing, kind_of, list_any, lives, lives_on}
+use Rattle.zl_calls.proofs.Common.{map, nat_cmp, nat_tests, none-some, not, object_entry, one_more, option_map, or_left, or_right, process_entry}
+use Rattle.zl_calls.proofs.Common.{process_killed, process_value, queued_to, refl, releases_then, runs, same_Some, same_in_job, sorted_parts, state_passes}
+use Rattle.zl_calls.proofs.Common.{subst, suc, sum_by, sum_by-append, sum_by-cons, sym, true, world_value, ℕ, ⊤, ◌++◌, ◌+◌, ◌<◌, ◌==◌, ◌||◌, ◌∙◌, ◌∷◌, ◌≡◌}
+use Rattle.zl_code.proofs.Common.{Process as ProcessValue, State}
 use Rattle.zl_objects.specs.declared.object.Body.{Body}
 use Rattle.zl_objects.specs.declared.object.Body.TheVariants as body
 use Rattle.zl_objects.specs.declared.object.Object.{Object}
 use Rattle.zl_objects.specs.Jobs.{all_killed}
-use Rattle.zl_objects.specs.Objects.{is_alive, queue_of}
+use Rattle.zl_objects.specs.Objects.{is_alive, queue_held}
 use Rattle.zl_calls.specs.declared.process.Process.{Process}
 use Rattle.zl_calls.proofs.lists.Updates.{found_behind}
 use Rattle.zl_calls.specs.calls.Task.{none_left}
@@ -178,20 +178,20 @@ module _ (P : Entry → Type 0) (r : Objects) (t : ℕ) where
 
 -- ---- what is killed
 
-kill_in : (t : ℕ) (m : Map Object) (k : ℕ) → get (all_killed m t) k ≡ option_map (killed_if (is_within m t k)) (get m k)
+kill_in : (t : ℕ) (m : Map Object) (k : ℕ) → get (all_killed m t) k ≡ option_map (killed_if (is_within_here m t k)) (get m k)
 unfolding all_killed
-kill_in t m k = get-each m (λ j. killed_if (is_within m t j)) k
+kill_in t m k = get-each m (λ j. killed_if (is_within_here m t j)) k
 
 -- the object k, killed if it is among them
 record WasThere (m : Map Object) (t k : ℕ) (o : Object) : Type 0 where
   before : Object
   there : get m k ≡ Some before
-  is : o ≡ killed_if (is_within m t k) before
+  is : o ≡ killed_if (is_within_here m t k) before
 
 was_there : (m : Map Object) (t k : ℕ) (o : Object) → get (all_killed m t) k ≡ Some o → WasThere m t k o
 was_there m t k o at = by_object (get m k) refl (sym (kill_in t m k) ∙ at)
   where
-    by_object : (x : Option Object) → get m k ≡ x → option_map (killed_if (is_within m t k)) x ≡ Some o → WasThere m t k o
+    by_object : (x : Option Object) → get m k ≡ x → option_map (killed_if (is_within_here m t k)) x ≡ Some o → WasThere m t k o
     by_object None here is = absurd (none-some o is)
     by_object (Some x) here is = record { before = x; there = here; is = sym (same_Some _ o is) }
 
@@ -203,11 +203,11 @@ killed_kind true o = by_body o.body
     by_body (body.Job job) = refl
     by_body _ = refl
 
-killed_queue : (b : Bool) (o : Object) → queue_of (killed_if b o).body ≡ queue_of o.body
+killed_queue : (b : Bool) (o : Object) → queue_held (killed_if b o).body ≡ queue_held o.body
 killed_queue false o = refl
 killed_queue true o = by_body o.body
   where
-    by_body : (c : Body) → queue_of (killed_body c) ≡ queue_of c
+    by_body : (c : Body) → queue_held (killed_body c) ≡ queue_held c
     by_body (body.Job job) = refl
     by_body _ = refl
 
@@ -237,12 +237,12 @@ queues_killed f (e ∷ m) j =
 
 pub queues_all_killed : (m : Map Object) (t j : ℕ) → queues (all_killed m t) j ≡ queues m j
 unfolding all_killed
-queues_all_killed m t j = queues_killed (is_within m t) m j
+queues_all_killed m t j = queues_killed (is_within_here m t) m j
 
 jobs_stay : (m : Map Object) (t j : ℕ) → is_job_at (all_killed m t) j ≡ is_job_at m j
-jobs_stay m t j = ap is_job_in (kill_in t m j) ∙ by_object (get m j) (is_within m t j)
+jobs_stay m t j = ap is_job_in (kill_in t m j) ∙ by_object (get m j) (is_within_here m t j)
   where
-    by_body : (c : Body) → is_job_body (killed_body c) ≡ is_job_body c
+    by_body : (c : Body) → is_job_here (killed_body c) ≡ is_job_here c
     by_body (body.Job job) = refl
     by_body _ = refl
 
@@ -253,15 +253,15 @@ jobs_stay m t j = ap is_job_in (kill_in t m j) ∙ by_object (get m j) (is_withi
 
 pub named_killed : (m : Map Object) (t : ℕ) (e : Entry) → IsNamed m e → IsNamed (all_killed m t) e
 named_killed m t e name = record {
-  object = killed_if (is_within m t e.koid) name.object;
+  object = killed_if (is_within_here m t e.koid) name.object;
   there = kill_in t m e.koid ∙ rw (name.there) refl;
-  kind = name.kind ∙ sym (killed_kind (is_within m t e.koid) name.object);
+  kind = name.kind ∙ sym (killed_kind (is_within_here m t e.koid) name.object);
   rights = name.rights;
 }
 
 killed_order : (m : Map Object) (t : ℕ) → is_sorted nat_cmp (all_killed m t) ≡ is_sorted nat_cmp m
 unfolding all_killed
-killed_order m t = in_order-each m (λ k. killed_if (is_within m t k))
+killed_order m t = in_order-each m (λ k. killed_if (is_within_here m t k))
 
 none_in : (v : ℕ) (e : Entry) → get {X = Entry} [] v ≡ Some e → ⊥
 unfolding get
@@ -289,10 +289,10 @@ abbrev pub killed_with : (ℕ → Bool) → (ℕ → ProcessValue → Cpu) → �
 killed_with f cpus k q = record (process_killed (f k) q) { cpu = cpus k q }
 
 module _ (ps ps3 : List Process) (r : Objects) (consistent : IsConsistent ps r) (t : ℕ) (cpus : ℕ → ProcessValue → Cpu)
-    (got : (k : ℕ) → get (map process_entry ps3) k ≡ option_map (killed_with (is_within r.objects t) cpus k) (get (map process_entry ps) k)) (gone : List Entry)
-    (fewer : (k : ℕ) → in_tables k ps ≡ in_tables k ps3 + naming k gone) where
+    (got : (k : ℕ) → get (map process_entry ps3) k ≡ option_map (killed_with (is_within_here r.objects t) cpus k) (get (map process_entry ps) k))
+    (gone : List Entry) (fewer : (k : ℕ) → in_tables k ps ≡ in_tables k ps3 + naming k gone) where
   abbrev within : ℕ → Bool
-  within = is_within r.objects t
+  within = is_within_here r.objects t
 
   record WasHere (k : ℕ) (q : ProcessValue) : Type 0 where
     before : ProcessValue
@@ -318,7 +318,7 @@ module _ (ps ps3 : List Process) (r : Objects) (consistent : IsConsistent ps r) 
       by_life false = h
 
   -- the state is as it was, or killed
-  passes_after : (test : StateValue → Bool) (k : ℕ)
+  passes_after : (test : State → Bool) (k : ℕ)
       → state_passes test (get (map process_entry ps3) k) ≡ state_passes test (option_map (process_killed (within k)) (get (map process_entry ps) k))
   passes_after test k = ap (state_passes test) (got k) ∙ by_process (get (map process_entry ps) k)
     where
@@ -347,14 +347,14 @@ module _ (ps ps3 : List Process) (r : Objects) (consistent : IsConsistent ps r) 
   stops None l living over = absurd (neither (is_alive l) living over)
   stops (Some q) l living over = by_state q.state refl
     where
-      by_state : (s : StateValue) → q.state ≡ s → (runs (if lives s then record q { state = Ended KILLED; handles = []; last = None } else q).state ≡ false)
+      by_state : (s : State) → q.state ≡ s → (runs (if lives s then record q { state = Ended KILLED; handles = []; last = None } else q).state ≡ false)
           × (lives (if lives s then record q { state = Ended KILLED; handles = []; last = None } else q).state ≡ false)
           × (has_ended (if lives s then record q { state = Ended KILLED; handles = []; last = None } else q).state ≡ true)
       by_state (Ended code) at = (ap runs at, ap lives at, ap has_ended at)
       by_state Gone at = absurd (neither (is_alive l) (living ∙ ap lives at) (over ∙ ap has_ended at))
       by_state _ at = (refl, refl, refl)
 
-  unchanged_by : (test : StateValue → Bool) (k : ℕ) → within k ≡ false
+  unchanged_by : (test : State → Bool) (k : ℕ) → within k ≡ false
       → is_process (world_value ps3 (killing r t)) test k ≡ is_process (world_value ps r) test k
   unfolding is_process
   unchanged_by test k out = passes_after test k ∙ rw out (by_process (get (map process_entry ps) k))
@@ -363,7 +363,7 @@ module _ (ps ps3 : List Process) (r : Objects) (consistent : IsConsistent ps r) 
       by_process None = refl
       by_process (Some q) = refl
 
-  changed_by : (test : StateValue → Bool) (k : ℕ) → within k ≡ true
+  changed_by : (test : State → Bool) (k : ℕ) → within k ≡ true
       → is_process (world_value ps3 (killing r t)) test k ≡ state_passes test (option_map (process_killed true) (get (map process_entry ps) k))
   unfolding is_process
   changed_by test k inside = passes_after test k ∙ rw inside refl
@@ -398,7 +398,7 @@ module _ (ps ps3 : List Process) (r : Objects) (consistent : IsConsistent ps r) 
   body_if true o = refl
   body_if false o = refl
 
-  pub killed_sound : IsTrue (is_sorted nat_cmp (map process_entry ps3)) → IsSound ps3 (numbered 0 gone) (killing r t)
+  pub killed_sound : IsTrue (is_sorted nat_cmp (map process_entry ps3)) → AreSound ps3 (numbered 0 gone) (killing r t)
   unfolding handles_to
   killed_sound sorted = record {
     processes_in_order = sorted;
@@ -416,9 +416,9 @@ module _ (ps ps3 : List Process) (r : Objects) (consistent : IsConsistent ps r) 
         (λ found. named_killed r.objects t e (consistent.named k w.before v e w.there found))
         (subst (λ (x : ProcessValue). get x.handles v ≡ Some e) w.became there);
     queued = λ k o at. let w = was_there r.objects t k o at in
-        subst (λ (x : Object). AreNamed (all_killed r.objects t) (queue_of x.body)) (sym w.is)
+        subst (λ (x : Object). AreNamed (all_killed r.objects t) (queue_held x.body)) (sym w.is)
         (rw (killed_queue (within k) w.before)
-        (still_named r.objects (all_killed r.objects t) (named_killed r.objects t) (queue_of w.before.body) (consistent.queued k w.before w.there)));
+        (still_named r.objects (all_killed r.objects t) (named_killed r.objects t) (queue_held w.before.body) (consistent.queued k w.before w.there)));
     counted = λ k o at. let w = was_there r.objects t k o at in
         let same : o.handles ≡ w.before.handles = ap (λ (x : Object). x.handles) w.is ∙ killed_handles (within k) w.before in
         omega (arith, same, consistent.counted k w.before w.there, fewer k, queues_all_killed r.objects t k, numbered_naming k 0 gone);

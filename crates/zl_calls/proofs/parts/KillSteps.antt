@@ -1,14 +1,14 @@
 -- The call task_kill as a step: refused, done, or with the end of its caller.
 use Rattle.zl_calls.proofs.Common.{AtCall, CallName, Err, IsAnsweredIn, IsConsistent, IsRefusedBy, IsToldIn, KillsNamed, Library, List, Objects, Ok, Outcome}
 use Rattle.zl_calls.proofs.Common.{Parts, Ready, Result, Site, Status, TaskKillDoes, [], ap, cpu_answered, false, gives_refused, handle_operands, is_blocked}
-use Rattle.zl_calls.proofs.Common.{kill_refusal, next_for, no_value, parts, process_value, refl, refusal, remove_all, set, site, slice_get, slice_set}
+use Rattle.zl_calls.proofs.Common.{kill_refusal, next_for, no_value, parts, plain_refusal, process_value, refl, remove_all, set, site, slice_get, slice_set}
 use Rattle.zl_calls.proofs.Common.{state_value, status_of, subst, sym, taken_handles, task_kill, told_by, wants_nothing, world_blocked, world_value, ℕ, ℤ, ⊤}
 use Rattle.zl_calls.proofs.Common.{◌∙◌, ◌≡◌}
 use Rattle.zl_rights.specs.declared.status.Status.TheVariants as status
 use Rattle.zl_code.specs.declared.history.Outcome.TheVariants as outcome
 use Rattle.zl_code.specs.declared.history.TraceItem.TheVariants as item
-use Rattle.zl_code.specs.Calls.{Calls as PolicedCalls}
-use Rattle.zl_code.specs.Refusals.{refusal as policed_refusal}
+use Rattle.zl_code.specs.Calls.{Calls}
+use Rattle.zl_code.specs.Refusals.{refusal}
 use Rattle.zl_calls.specs.Reaching.{EndsCaller}
 use Rattle.zl_calls.specs.declared.process.Process.{Process}
 use Rattle.zl_calls.specs.declared.process.State.TheVariants as state
@@ -39,7 +39,7 @@ module _ {ps : List Process} {r : Objects} {blocked : List ℕ} {pid place : ℕ
   is_ready_process : state_value p.state ≡ Ready
   is_ready_process = ready turn
 
-  free_there : policed_refusal lib (world_blocked ps r blocked) p.pid (task_kill task) ≡ refusal lib (world_blocked ps r blocked) p.pid (task_kill task)
+  free_there : refusal lib (world_blocked ps r blocked) p.pid (task_kill task) ≡ plain_refusal lib (world_blocked ps r blocked) p.pid (task_kill task)
   free_there = free_beside (process_value p) s (itself turn).there next
 
   -- with the pid that the step names
@@ -59,7 +59,7 @@ module _ {ps : List Process} {r : Objects} {blocked : List ℕ} {pid place : ℕ
     write_told : IsWrite ps after_it p told
     write_told = write_of turn told refl
 
-    refused_calls_so : (c : PolicedCalls lib (world_blocked ps r blocked) p.pid s (outcome.Answered answer) (world_blocked after_it r blocked))
+    refused_calls_so : (c : Calls lib (world_blocked ps r blocked) p.pid s (outcome.Answered answer) (world_blocked after_it r blocked))
         × IsOwn ps after_it r p.pid s.request c.0
     unfolding taken_handles handle_operands remove_all gives_refused is_process
     refused_calls_so =

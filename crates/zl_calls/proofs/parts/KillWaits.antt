@@ -1,9 +1,9 @@
 -- What a kill leaves of registered waits: none of a process that it ended, and those of the others as they were.
 use Rattle.zl_calls.proofs.Common.{All, All-head, All-tail, Bool, ClosesAllEnded, ClosesEnded, Contains, Entry, IsTrue, KeepsWithout, KillsTask, List, Map}
 use Rattle.zl_calls.proofs.Common.{Objects, Option, Parts, Some, Wait, [], ap, cases_Bool, ended_if, ended_within, eqb-true, false, false≢true, get, get_or}
-use Rattle.zl_calls.proofs.Common.{has_handle, if◌then◌else◌, inl, inr, is_over, is_sorted, is_within, lives, lives_on, map, nat_cmp, none-some, not, one_more}
-use Rattle.zl_calls.proofs.Common.{parts, process_entry, process_value, refl, same_Some, slice_get-get_or, state_passes, state_value, subst, sym, true, ℕ, ◌&&◌}
-use Rattle.zl_calls.proofs.Common.{◌==◌, ◌∙◌, ◌∷◌, ◌≡◌}
+use Rattle.zl_calls.proofs.Common.{has_handle, if◌then◌else◌, inl, inr, is_over, is_sorted, is_within_here, lives, lives_on, map, nat_cmp, none-some, not}
+use Rattle.zl_calls.proofs.Common.{one_more, parts, process_entry, process_value, refl, same_Some, slice_get-get_or, state_passes, state_value, subst, sym}
+use Rattle.zl_calls.proofs.Common.{true, ℕ, ◌&&◌, ◌==◌, ◌∙◌, ◌∷◌, ◌≡◌}
 use Rattle.zl_code.proofs.Common.{Process as ProcessValue, not-true}
 use Rattle.zl_calls.specs.calls.Task.{none_left}
 use Rattle.zl_calls.specs.declared.process.Process.{Process}
@@ -112,7 +112,7 @@ ended_at : (r : Objects) (t : ℕ) (ps : List Process) (k : ℕ) (q : ProcessVal
 unfolding get
 ended_at r t [] k q at = absurd (none-some q at)
 ended_at r t (p ∷ ps) k q at =
-    let same = still (lives (state_value p.state) && is_within r.objects t p.pid) in
+    let same = still (lives (state_value p.state) && is_within_here r.objects t p.pid) in
     by_first (ended_within r t p) same.0 same.1 (ended_at r t ps k q)
   where
     by_first : (p1 : Process) → p1.pid ≡ p.pid → p1.table.entries ≡ p.table.entries → (get (map process_entry ps) k ≡ Some q

@@ -1,16 +1,16 @@
 -- What a kill makes of the world: the definitions see the same of its processes, objects and list of the blocked.
 use Rattle.zl_calls.proofs.Common.{AreBlocked, AreClosed, Blocked, Bool, ClosesAllEnded, ClosesEnded, Ended, IsClosed, KILLED, List, Map, None, Objects, Option}
 use Rattle.zl_calls.proofs.Common.{Some, [], ap, arith, body_in, body_value, cases_Bool, each, ended_if, ended_within, eq-eqb, false, false≢true, filter, get}
-use Rattle.zl_calls.proofs.Common.{get-each, get_seen, if◌then◌else◌, inl, inr, is_blocked, is_over, is_within, killed_body, killed_if, length, lives, lives_on}
-use Rattle.zl_calls.proofs.Common.{map, not, object_entry, object_killed, object_value, one_more, option_map, process_entry, process_killed, process_value}
-use Rattle.zl_calls.proofs.Common.{refl, state_passes, state_value, suc, sym, true, zero, ℕ, ◌<◌, ◌==◌, ◌||◌, ◌∙◌, ◌∷◌, ◌≡◌}
-use Rattle.zl_code.proofs.Common.{Process as ProcessValue, Object as ObjectValue, State as StateValue}
-use Rattle.zl_code.specs.Jobs.{body_killed, is_under_by, is_within as is_within_value}
-use Rattle.zl_code.specs.Tests.{parent_in as parent_in_value}
+use Rattle.zl_calls.proofs.Common.{get-each, get_seen, if◌then◌else◌, inl, inr, is_blocked, is_over, is_within_here, killed_body, killed_if, length, lives}
+use Rattle.zl_calls.proofs.Common.{lives_on, map, not, object_entry, object_killed, object_value, one_more, option_map, process_entry, process_killed}
+use Rattle.zl_calls.proofs.Common.{process_value, refl, state_passes, state_value, suc, sym, true, zero, ℕ, ◌<◌, ◌==◌, ◌||◌, ◌∙◌, ◌∷◌, ◌≡◌}
+use Rattle.zl_code.proofs.Common.{Process as ProcessValue, Object as ObjectValue, State}
+use Rattle.zl_code.specs.Jobs.{body_killed, is_under_by, is_within}
+use Rattle.zl_code.specs.Tests.{parent_in}
 use Rattle.zl_objects.specs.declared.object.Body.{Body}
 use Rattle.zl_objects.specs.declared.object.Body.TheVariants as body
 use Rattle.zl_objects.specs.declared.object.Object.{Object}
-use Rattle.zl_objects.specs.Jobs.{all_killed, is_below_by, parent_at, parent_of}
+use Rattle.zl_objects.specs.Jobs.{all_killed, is_below_by, parent_at, parent_held}
 use Rattle.zl_calls.specs.declared.process.Process.{Process}
 use Rattle.zl_calls.specs.calls.Task.{none_left}
 use Rattle.zl_calls.proofs.waking.BlockedLists.{blocked_there}
@@ -18,14 +18,14 @@ use Rattle.zl_calls.proofs.waking.BlockedLists.{blocked_there}
 -- ---- who stands below
 
 module _ (m : Map Object) (t : ℕ) where
-  same_parent : (k : ℕ) → parent_in_value (body_in (get (map object_entry m) k)) ≡ parent_at m k
-  same_parent k = ap (λ (o : Option ObjectValue). parent_in_value (body_in o)) (get_seen m k) ∙ by_object (get m k)
+  same_parent : (k : ℕ) → parent_in (body_in (get (map object_entry m) k)) ≡ parent_at m k
+  same_parent k = ap (λ (o : Option ObjectValue). parent_in (body_in o)) (get_seen m k) ∙ by_object (get m k)
     where
-      by_body : (b : Body) → parent_in_value (Some (body_value b)) ≡ parent_of b
+      by_body : (b : Body) → parent_in (Some (body_value b)) ≡ parent_held b
       by_body (body.Job job) = refl
       by_body _ = refl
 
-      by_object : (o : Option Object) → parent_in_value (body_in (option_map object_value o)) ≡ (elim o as (λ _. ℕ) [ None ↦ 0 | Some x ↦ parent_of x.body ])
+      by_object : (o : Option Object) → parent_in (body_in (option_map object_value o)) ≡ (elim o as (λ _. ℕ) [ None ↦ 0 | Some x ↦ parent_held x.body ])
       by_object None = refl
       by_object (Some o) = by_body o.body
 
@@ -35,8 +35,8 @@ module _ (m : Map Object) (t : ℕ) where
   same_under (suc n) k = rw (same_parent k, same_under n (parent_at m k)) refl
 
   -- 0 is no koid, and nothing stands below it
-  pub same_within : (t == 0) ≡ false → (k : ℕ) → is_within_value (map object_entry m) t k ≡ is_within m t k
-  unfolding is_within_value
+  pub same_within : (t == 0) ≡ false → (k : ℕ) → is_within (map object_entry m) t k ≡ is_within_here m t k
+  unfolding is_within
   same_within some k = rw some (ap (λ (b : Bool). (k == t) || b) (same_under 16 k))
 
 -- ---- objects
@@ -56,22 +56,22 @@ each_seen f g same [] = refl
 each_seen f g same (e ∷ m) = λ i. (e.0, (killed_seen (f e.0) e.1 ∙ ap (λ (b : Bool). object_killed b (object_value e.1)) (same e.0)) i) ∷ each_seen f g same m i
 
 pub objects_killed : (m : Map Object) (t : ℕ) → (t == 0) ≡ false
-    → map object_entry (all_killed m t) ≡ each (λ k. object_killed (is_within_value (map object_entry m) t k)) (map object_entry m)
+    → map object_entry (all_killed m t) ≡ each (λ k. object_killed (is_within (map object_entry m) t k)) (map object_entry m)
 unfolding all_killed
-objects_killed m t some = each_seen (is_within m t) (is_within_value (map object_entry m) t) (λ k. sym (same_within m t some k)) m
+objects_killed m t some = each_seen (is_within_here m t) (is_within (map object_entry m) t) (λ k. sym (same_within m t some k)) m
 
 -- ---- processes
 
 module _ (ps : List Process) (r : Objects) (blocked : List ℕ) where
   -- those are left that are still blocked: who isn't among the killed
   pub blocked_left : (t : ℕ) (qs : List Process) → AreBlocked ps blocked
-      → map process_entry qs ≡ each (λ k. process_killed (is_within_value (map object_entry r.objects) t k)) (map process_entry ps)
+      → map process_entry qs ≡ each (λ k. process_killed (is_within (map object_entry r.objects) t k)) (map process_entry ps)
       → filter (λ k. state_passes is_blocked (get (map process_entry qs) k)) blocked
-      ≡ filter (λ k. not (is_within_value (map object_entry r.objects) t k)) blocked
+      ≡ filter (λ k. not (is_within (map object_entry r.objects) t k)) blocked
   blocked_left t qs are is = alike blocked (blocked_there ps blocked are)
     where
       within : ℕ → Bool
-      within k = is_within_value (map object_entry r.objects) t k
+      within k = is_within (map object_entry r.objects) t k
 
       one : (k : ℕ) → state_passes is_blocked (get (map process_entry ps) k) ≡ true → state_passes is_blocked (get (map process_entry qs) k) ≡ not (within k)
       one k was =
@@ -79,7 +79,7 @@ module _ (ps : List Process) (r : Objects) (blocked : List ℕ) where
           ∙ (ap (state_passes is_blocked) (get-each (map process_entry ps) (λ j. process_killed (within j)) k)
           ∙ by_process (get (map process_entry ps) k) (within k) was)
         where
-          by_state : (q : ProcessValue) (s : StateValue) → q.state ≡ s → is_blocked s ≡ true
+          by_state : (q : ProcessValue) (s : State) → q.state ≡ s → is_blocked s ≡ true
               → is_blocked (if lives s then record q { state = Ended KILLED; handles = []; last = None } else q).state ≡ false
           by_state q (Blocked awaited ds) at h = refl
           by_state q _ at h = absurd (false≢true h)
@@ -108,8 +108,8 @@ module _ (ps : List Process) (r : Objects) (blocked : List ℕ) where
 
 -- one process: where it lives and is killed it has ended, and else it is as it was
 killed_one : (r : Objects) (t : ℕ) (p p1 p2 : Process) (mid r2 : Objects) → p1 ≡ ended_within r t p → IsClosed p → ClosesEnded p1 mid p2 r2
-    → ◌≡◌ {A = ℕ × ProcessValue} (process_entry p2) (p.pid, process_killed (is_within r.objects t p.pid) (process_value p))
-killed_one r t p p1 p2 mid r2 is idle closes = by_life (lives (state_value p.state)) (is_within r.objects t p.pid) refl refl
+    → ◌≡◌ {A = ℕ × ProcessValue} (process_entry p2) (p.pid, process_killed (is_within_here r.objects t p.pid) (process_value p))
+killed_one r t p p1 p2 mid r2 is idle closes = by_life (lives (state_value p.state)) (is_within_here r.objects t p.pid) refl refl
   where
     over : p1 ≡ ended_if true p → lives (state_value p.state) ≡ true → (q1 q2 : Process) (a b : Objects) → q1 ≡ p1 → ClosesEnded q1 a q2 b
         → ◌≡◌ {A = ℕ × ProcessValue} (process_entry q2) (p.pid, process_killed true (process_value p))
@@ -124,11 +124,11 @@ killed_one r t p p1 p2 mid r2 is idle closes = by_life (lives (state_value p.sta
         ap process_entry (same ∙ ap (λ (x : Process). record x { table = q2.table }) (at ∙ as_was))
         ∙ (λ i. (p.pid, record (process_value p) { handles = (entries ∙ sym none.0) i; last = (last ∙ sym none.1) i }))
 
-    by_life : (live inside : Bool) → lives (state_value p.state) ≡ live → is_within r.objects t p.pid ≡ inside
-        → ◌≡◌ {A = ℕ × ProcessValue} (process_entry p2) (p.pid, process_killed (is_within r.objects t p.pid) (process_value p))
+    by_life : (live inside : Bool) → lives (state_value p.state) ≡ live → is_within_here r.objects t p.pid ≡ inside
+        → ◌≡◌ {A = ℕ × ProcessValue} (process_entry p2) (p.pid, process_killed (is_within_here r.objects t p.pid) (process_value p))
     by_life true true living in_it = rw in_it (over (is ∙ rw (living, in_it) refl) living p1 p2 mid r2 refl closes)
     by_life true false living out = rw out (stays (is ∙ rw (living, out) refl) p1 p2 mid r2 refl closes)
-    by_life false inside dead at = stays (is ∙ rw dead refl) p1 p2 mid r2 refl closes ∙ (λ i. (p.pid, sym (untouched (is_within r.objects t p.pid)) i))
+    by_life false inside dead at = stays (is ∙ rw dead refl) p1 p2 mid r2 refl closes ∙ (λ i. (p.pid, sym (untouched (is_within_here r.objects t p.pid)) i))
       where
         untouched : (b : Bool) → process_killed b (process_value p) ≡ process_value p
         untouched false = refl
@@ -136,7 +136,7 @@ killed_one r t p p1 p2 mid r2 is idle closes = by_life (lives (state_value p.sta
 
 -- all of them
 killed_all : (r : Objects) (t : ℕ) (ps qs ps2 : List Process) (mid r2 : Objects) → qs ≡ map (ended_within r t) ps → AreClosed ps → ClosesAllEnded qs mid ps2 r2
-    → map process_entry ps2 ≡ each (λ k. process_killed (is_within r.objects t k)) (map process_entry ps)
+    → map process_entry ps2 ≡ each (λ k. process_killed (is_within_here r.objects t k)) (map process_entry ps)
 unfolding each
 killed_all r t [] qs ps2 mid r2 is idle (none_left _) = refl
 killed_all r t [] _ _ mid r2 is idle (one_more p1 p2 qs ps2 _ _ _ one rest) = absurd cc
@@ -148,7 +148,7 @@ killed_all r t (p ∷ ps) _ _ mid r2 is idle (one_more p1 p2 qs ps2 _ between _ 
 
 pub processes_killed : (ps ps2 : List Process) (r mid r2 : Objects) (t : ℕ) → (t == 0) ≡ false → AreClosed ps
     → ClosesAllEnded (map (ended_within r t) ps) mid ps2 r2
-    → map process_entry ps2 ≡ each (λ k. process_killed (is_within_value (map object_entry r.objects) t k)) (map process_entry ps)
+    → map process_entry ps2 ≡ each (λ k. process_killed (is_within (map object_entry r.objects) t k)) (map process_entry ps)
 processes_killed ps ps2 r mid r2 t some idle closes =
     killed_all r t ps (map (ended_within r t) ps) ps2 mid r2 refl idle closes
     ∙ (λ i. each (λ k. process_killed (sym (same_within r.objects t some k) i)) (map process_entry ps))

@@ -1,12 +1,12 @@
 -- The calls that reach other processes, from what they do to how they are answered.
-use Rattle.zl_calls.proofs.Common.{Bool, CreatesProcess, EndsOrAnswers, Err, IsAnsweredIn, IsCallerStill, IsStarted, Library, List, None, Objects, Ok, Option}
+use Rattle.zl_calls.proofs.Common.{Bool, CreatesProcess, EndsOrAnswers, Err, HasBegun, IsAnsweredIn, IsCallerStill, Library, List, None, Objects, Ok, Option}
 use Rattle.zl_calls.proofs.Common.{Outcome, Parts, ProcessCreateDoes, ProcessStartDoes, Reaches, Result, Site, Some, Status, TaskKillDoes, [], answered_in, ap}
 use Rattle.zl_calls.proofs.Common.{cpu_answered, ending_of, false, false≢true, get_or, is_created, is_ready, kills, kills_itself, length, no_value, none-some}
 use Rattle.zl_calls.proofs.Common.{one_value, parts, process_create, process_start, refl, register_set, same_Some, site, slice_get, slice_get_within, slice_set}
 use Rattle.zl_calls.proofs.Common.{starts, state_value, status_of, subst, suc, sym, task_kill, told_by, told_unless_over, true, values_of, zero, ℕ, ℤ, ⊤, ◌++◌}
 use Rattle.zl_calls.proofs.Common.{◌<◌, ◌^◌, ◌∙◌, ◌∷◌, ◌≡◌}
 use Rattle.zl_code.specs.declared.history.Outcome.TheVariants as outcome
-use Rattle.zl_calls.specs.Reaching.{creates}
+use Rattle.zl_calls.specs.Reaching.{creates_process}
 use Rattle.zl_calls.specs.declared.process.Process.{Process}
 use Rattle.zl_calls.specs.declared.process.State.{State}
 use Rattle.zl_calls.specs.declared.process.State.TheVariants as state
@@ -78,10 +78,10 @@ told_pid status answer p p2 told = by_state p.state told
     by_state (state.Ended code) is = ap (λ (q : Process). q.pid) is
     by_state _ is = ap (λ (q : Process). q.pid) is
 
-pub told_started : (status : ℕ) (answer : Result ⊤ Status) (p p2 : Process) → p2 ≡ told_unless_over status answer p.state p → IsStarted p → IsStarted p2
+pub told_started : (status : ℕ) (answer : Result ⊤ Status) (p p2 : Process) → p2 ≡ told_unless_over status answer p.state p → HasBegun p → HasBegun p2
 told_started status answer p p2 told started = by_state p.state told
   where
-    by_state : (x : State) → p2 ≡ told_unless_over status answer x p → IsStarted p2
+    by_state : (x : State) → p2 ≡ told_unless_over status answer x p → HasBegun p2
     by_state (state.Ended code) is = ap (λ (q : Process). is_created (state_value q.state)) is ∙ started
     by_state _ is = ap (λ (q : Process). is_created (state_value q.state)) is ∙ started
 
@@ -114,7 +114,7 @@ module _ (lib : Library) (ps ps1 : List Process) (r r1 : Objects) (blocked block
       → Reaches lib place caller (site (process_create job program) [] (status_in ∷ made_in ∷ [])) (parts ps r blocked) o
       (parts (slice_set ps1 place p2) r1 blocked1)
   create_reaches job program status_in made_in answer does o ends p2 told =
-      creates job program refl
+      creates_process job program refl
       (answered_so one_value (ProcessCreateDoes lib place job program caller) (site (process_create job program) [] (status_in ∷ made_in ∷ [])) place
       (parts ps r blocked) (parts ps1 r1 blocked1) answer does p there o ends p2 told)
 

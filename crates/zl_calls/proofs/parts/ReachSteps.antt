@@ -3,7 +3,7 @@ use Rattle.zl_calls.proofs.Common.{AtCall, CallName, IsAnsweredIn, Library, List
 use Rattle.zl_calls.proofs.Common.{Request, Site, TaskKillDoes, ap, kills, kills_itself, next_for, no_value, one_value, parts, process_create, process_start}
 use Rattle.zl_calls.proofs.Common.{process_value, refl, site, starts, subst, sym, task_kill, told_by, verdict_on, world_blocked, world_value, ℕ, ℤ, ◌∙◌, ◌≡◌}
 use Rattle.zl_code.specs.declared.history.TraceItem.TheVariants as item
-use Rattle.zl_calls.specs.Reaching.{creates}
+use Rattle.zl_calls.specs.Reaching.{creates_process}
 use Rattle.zl_calls.specs.declared.process.Process.{Process}
 use Rattle.zl_calls.specs.declared.process.State.TheVariants as state
 use Rattle.zl_calls.proofs.policy.Freedom.{is_free}
@@ -30,7 +30,7 @@ module _ {ps : List Process} {r : Objects} {blocked : List ℕ} {pid place : ℕ
 
   pub reaches_so : (o : Outcome) (all2 : Parts) → Reaches lib place p s (parts ps r blocked) o all2
       → HasLeft lib ps all2.processes r all2.objects blocked all2.blocked pid (item.Call pid name o)
-  reaches_so o all2 (creates job program is does) =
+  reaches_so o all2 (creates_process job program is does) =
       create_so turn lib name free job program s.consumed s.destinations (next ∙ ap (AtCall name) (site_is (process_create job program) is)) all2 o
       (subst (λ (x : Site). IsAnsweredIn (told_by one_value) (ProcessCreateDoes lib place job program p) x place (parts ps r blocked) o all2)
       (site_is (process_create job program) is) does)

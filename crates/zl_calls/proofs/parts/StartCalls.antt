@@ -1,14 +1,13 @@
 -- The call process_start, from all processes and the objects to the relation of calls.
 use Rattle.zl_rights.specs.Values.{given_back}
-use Rattle.zl_calls.proofs.Common.{Bool, Calls, Entry, Inserts, IsTrue, Library, List, Map, None, Objects, Ok, Option, Ready, Site, Some, TRANSFER, Values}
-use Rattle.zl_calls.proofs.Common.{WRITE, World, [], and_from, answer_if, ap, arith, below_all, below_parts, cases_Bool, child_refusal}
-use Rattle.zl_calls.proofs.Common.{cpu_answered, cpu_given, effect, eq-eqb, eqb-true, false, first_some, get, get-update, gives_ok, handle_operands, has_key}
-use Rattle.zl_calls.proofs.Common.{if◌then◌else◌, inl, inr, insert_all, is_created, is_process, is_sorted, listed, looked_up, map, may_choose, may_get, misfits}
-use Rattle.zl_calls.proofs.Common.{nat_cmp, ne_eqb, new_handles, none-some, not, object_entry, object_value, on_process, operands_fault, option_map, process_at}
-use Rattle.zl_calls.proofs.Common.{process_entry, process_start, process_value, process_with, process_without, refl, refusal, remove_all, replied, same_Some}
-use Rattle.zl_calls.proofs.Common.{site, slice_get, slice_set, sorted_parts, start_refusal, started, started_with, starting, state_passes}
-use Rattle.zl_calls.proofs.Common.{state_value, subst, suc, sym, table_of, taken, taken_handles, true, update, without, without_handle, world_value, zero, ℕ}
-use Rattle.zl_calls.proofs.Common.{◌<◌, ◌==◌, ◌∙◌, ◌∷◌, ◌≡◌}
+use Rattle.zl_calls.proofs.Common.{Bool, Entry, Inserts, IsTrue, Library, List, Map, None, Objects, Ok, Option, PlainCalls, Ready, Site, Some, TRANSFER, Values}
+use Rattle.zl_calls.proofs.Common.{WRITE, World, [], and_from, answer_if, ap, arith, below_all, below_parts, cases_Bool, child_refusal, cpu_answered, cpu_given}
+use Rattle.zl_calls.proofs.Common.{effect, eq-eqb, eqb-true, false, first_some, get, get-update, gives_ok, handle_operands, has_key, if◌then◌else◌, inl, inr}
+use Rattle.zl_calls.proofs.Common.{insert_all, is_created, is_process, is_sorted, listed, looked_up, map, may_choose, may_get, misfits, nat_cmp, ne_eqb}
+use Rattle.zl_calls.proofs.Common.{new_handles, none-some, not, object_entry, object_value, on_process, operands_fault, option_map, plain_refusal, process_at}
+use Rattle.zl_calls.proofs.Common.{process_entry, process_start, process_value, process_with, process_without, refl, remove_all, replied, same_Some, site}
+use Rattle.zl_calls.proofs.Common.{slice_get, slice_set, sorted_parts, start_refusal, started, started_with, starting, state_passes, state_value, subst, suc}
+use Rattle.zl_calls.proofs.Common.{sym, table_of, taken, taken_handles, true, update, without, without_handle, world_value, zero, ℕ, ◌<◌, ◌==◌, ◌∙◌, ◌∷◌, ◌≡◌}
 use Rattle.zl_code.proofs.Common.{Process as ProcessValue}
 use Rattle.zl_rights.specs.declared.kind.Kind.TheVariants as kind
 use Rattle.zl_rights.specs.declared.status.Status.TheVariants as status
@@ -103,7 +102,7 @@ module _ (lib : Library) (ps : List Process) (r : Objects) (p : Process) (there 
   by_child None e = refl
   by_child (Some q) e = two_tests (not (is_created (state_value q.state))) (misfits (slice_get lib q.program) (Some e)) status.BadState status.InvalidArgs
 
-  pub start_refused : refusal lib w p.pid (process_start process h word) ≡ answers (start_refusal lib ps p.table.entries process h)
+  pub start_refused : plain_refusal lib w p.pid (process_start process h word) ≡ answers (start_refusal lib ps p.table.entries process h)
   unfolding handle_operands operands_fault listed is_process
   start_refused =
       both_looked_up lib w p.pid p.table.entries table_there (process_start process h word) (start_refusal lib ps p.table.entries process h)
@@ -187,7 +186,7 @@ module _ (lib : Library) (ps : List Process) (r : Objects) (p : Process) (there 
 
     pub start_calls : start_refusal lib ps p.table.entries process h ≡ None → (after : List Process) (k : ℕ)
         → map process_entry after ≡ update (update (map process_entry ps) named.koid child_after) p.pid caller_after
-        → (c : Calls lib w p.pid start_site (outcome.Answered status.Ok) (world_value after (starting r k))) × (c.0 ≡ Values (value ∷ []))
+        → (c : PlainCalls lib w p.pid start_site (outcome.Answered status.Ok) (world_value after (starting r k))) × (c.0 ≡ Values (value ∷ []))
     unfolding effect gives_ok new_handles taken_handles handle_operands
     start_calls unrefused after k written = (
       (

@@ -1,13 +1,13 @@
 -- A process was started with a handle of another: the invariant of all processes and of the objects holds afterwards.
 use Rattle.zl_calls.proofs.Common.{Agrees, AreBlocked, AreNamed, Bool, Created, Entry, Inserts, IsConsistent, IsNamed, IsTable, IsTrue, Kind, List, Map}
 use Rattle.zl_calls.proofs.Common.{Objects, Ready, Some, [], ap, arith, body_value, cases_Bool, cond, count_by, eq-eqb, false, false≢true, get, handles_to}
-use Rattle.zl_calls.proofs.Common.{has_ended, has_key, has_key-update, has_living_child, inl, inr, is_above, is_blocked, is_child, is_created, is_in_job}
+use Rattle.zl_calls.proofs.Common.{has_ended, has_key, has_key-update, has_living_child_here, inl, inr, is_above, is_blocked, is_child, is_created, is_in_job}
 use Rattle.zl_calls.proofs.Common.{is_kept, is_process, is_sorted-update, keeper_of, kept_all, kind_of, list_any, lives, map, object_value, or_cases, or_left}
 use Rattle.zl_calls.proofs.Common.{or_right, process_entry, process_value, queued_to, refl, runs, same_Some, same_in_job, started, started_body, starting}
 use Rattle.zl_calls.proofs.Common.{state_value, stays_alone, subst, sum_by, sym, true, update, without_handle, world_value, ℕ, ◌+◌, ◌==◌, ◌||◌, ◌∙◌, ◌∷◌, ◌≡◌}
 use Rattle.zl_code.proofs.Common.{Process as ProcessValue, State as StateValue}
 use Rattle.zl_rights.specs.declared.kind.Kind.TheVariants as kind
-use Rattle.zl_objects.specs.Objects.{queue_of}
+use Rattle.zl_objects.specs.Objects.{queue_held}
 use Rattle.zl_objects.specs.declared.object.Body.{Body}
 use Rattle.zl_objects.specs.declared.object.Body.TheVariants as body
 use Rattle.zl_objects.specs.declared.object.Life.TheVariants as life
@@ -30,7 +30,7 @@ pub started_seen : (b : Body) → body_value (started_body b) ≡ body_value b
 started_seen (body.Job own) = refl
 started_seen _ = refl
 
-started_queue : (b : Body) → queue_of (started_body b) ≡ queue_of b
+started_queue : (b : Body) → queue_held (started_body b) ≡ queue_held b
 started_queue (body.Job own) = refl
 started_queue _ = refl
 
@@ -60,8 +60,8 @@ module _ (m : Map Object) (k : ℕ) where
   in_job_started : (b : Body) → IsTrue (is_in_job m b) → IsTrue (is_in_job begun (started_body b))
   in_job_started b h = ap (is_above begun) (started_keeper b) ∙ in_job_begun b h
 
-child_begun : (m : Map Object) (k job : ℕ) → has_living_child (update m k started) job ≡ has_living_child m job
-unfolding update has_living_child
+child_begun : (m : Map Object) (k job : ℕ) → has_living_child_here (update m k started) job ≡ has_living_child_here m job
+unfolding update has_living_child_here
 child_begun [] k job = refl
 child_begun (e ∷ m) k job =
     elim (cases_Bool (e.0 == k)) as (λ _. list_any (λ x. is_child job x.1.body) (update (e ∷ m) k started) ≡ list_any (λ x. is_child job x.1.body) (e ∷ m)) [
@@ -218,9 +218,9 @@ module _ (ps mid after : List Process) (child begins p p2 : Process) (one : IsWr
     no_zero = λ j has. consistent.no_zero j (sym (has_key-update r.objects k started j) ∙ has);
     tables = tables_now;
     named = named_now;
-    queued = each_updated (λ j q. AreNamed r2.objects (queue_of q.body)) started r.objects k
-        (λ o old. rw (started_queue o.body) (still_named r.objects r2.objects still (queue_of o.body) (consistent.queued k o old)))
-        (λ j q apart old. still_named r.objects r2.objects still (queue_of q.body) (consistent.queued j q old));
+    queued = each_updated (λ j q. AreNamed r2.objects (queue_held q.body)) started r.objects k
+        (λ o old. rw (started_queue o.body) (still_named r.objects r2.objects still (queue_held o.body) (consistent.queued k o old)))
+        (λ j q apart old. still_named r.objects r2.objects still (queue_held q.body) (consistent.queued j q old));
     counted = each_updated (λ j q. q.handles ≡ handles_to (world_value after r2) j) started r.objects k
         (λ o old. consistent.counted k o old ∙ sym (counts k)) (λ j q apart old. consistent.counted j q old ∙ sym (counts j));
     agrees = λ j q at. still_agrees (world_value mid r2) (world_value after r2) j q.body (same_after j)

@@ -1,10 +1,10 @@
 -- The call process_start where it is done: in the world it is what the definitions make of it.
-use Rattle.zl_calls.proofs.Common.{Calls, IsToldIn, IsTrue, Library, List, Map, None, Objects, Ok, Parts, Site, Some, StartsProcess, TRANSFER, WRITE, [], ap}
-use Rattle.zl_calls.proofs.Common.{cases_Bool, cpu_answered, eqb-true, false, get, inl, inr, is_created, is_ready, is_sorted, is_sorted-update, looked_up, map}
-use Rattle.zl_calls.proofs.Common.{nat_cmp, no_value, parts, process_entry, process_start, process_value, process_with, process_without, refl, same_Some, site}
-use Rattle.zl_calls.proofs.Common.{slice_get, slice_set, start_refusal, started_with, state_value, subst, sym, told_by, true, update, without_handle}
+use Rattle.zl_calls.proofs.Common.{IsToldIn, IsTrue, Library, List, Map, None, Objects, Ok, Parts, PlainCalls, Site, Some, StartsProcess, TRANSFER, WRITE, []}
+use Rattle.zl_calls.proofs.Common.{ap, cases_Bool, cpu_answered, eqb-true, false, get, inl, inr, is_created, is_ready, is_sorted, is_sorted-update, looked_up}
+use Rattle.zl_calls.proofs.Common.{map, nat_cmp, no_value, parts, process_entry, process_start, process_value, process_with, process_without, refl, same_Some}
+use Rattle.zl_calls.proofs.Common.{site, slice_get, slice_set, start_refusal, started_with, state_value, subst, sym, told_by, true, update, without_handle}
 use Rattle.zl_calls.proofs.Common.{world_value, ℕ, ◌==◌, ◌∙◌, ◌∷◌, ◌≡◌, ◌≢◌}
-use Rattle.zl_code.proofs.Common.{Process as ProcessValue, State as StateValue}
+use Rattle.zl_code.proofs.Common.{Process as ProcessValue, State}
 use Rattle.zl_rights.specs.declared.kind.Kind.TheVariants as kind
 use Rattle.zl_rights.specs.declared.status.Status.TheVariants as status
 use Rattle.zl_code.specs.declared.history.Outcome.TheVariants as outcome
@@ -76,7 +76,7 @@ module _ {lib : Library} {ps : List Process} {r : Objects} {blocked : List ℕ} 
         let same : does.child.pid ≡ p.pid = does.pid ∙ sym (eqb-true p.pid does.named.koid here) in
         let one : process_value does.child ≡ process_value p =
         same_Some (process_value does.child) (process_value p) (sym child_write.there ∙ (ap (λ (k : ℕ). get (map process_entry ps) k) same ∙ caller_held)) in
-        absurd (not_both p.state (subst (λ (x : StateValue). is_created x ≡ true) (ap (λ (q : ProcessValue). q.state) one) does.is_created) ready)
+        absurd (not_both p.state (subst (λ (x : State). is_created x ≡ true) (ap (λ (q : ProcessValue). q.state) one) does.is_created) ready)
     | inr apart ↦ apart
   ]
 
@@ -112,10 +112,10 @@ module _ {lib : Library} {ps : List Process} {r : Objects} {blocked : List ℕ} 
       (child_write.writes child_now child_seen ∙ ap (λ (k : ℕ). update (map process_entry ps) k child_now) does.pid))
 
   -- the call of the definitions
-  pub start_relates : (c : Calls lib (world_value ps r) p.pid s (outcome.Answered status.Ok) (world_value all2.processes all2.objects))
+  pub start_relates : (c : PlainCalls lib (world_value ps r) p.pid s (outcome.Answered status.Ok) (world_value all2.processes all2.objects))
       × (c.0 ≡ Values (does.value ∷ []))
   start_relates =
-      subst (λ (x : Objects). (c : Calls lib (world_value ps r) p.pid s (outcome.Answered status.Ok) (world_value all2.processes x))
+      subst (λ (x : Objects). (c : PlainCalls lib (world_value ps r) p.pid s (outcome.Answered status.Ok) (world_value all2.processes x))
       × (c.0 ≡ Values (does.value ∷ []))) (sym (tells.objects ∙ does.objects))
       (start_calls lib ps r p caller_held process h word consumed destinations does.named does.given is_named is_given other_pid does.child does.started
       child_held does.value does.inserts (subst (λ (q : Process). start_refusal lib ps q.table.entries process h ≡ None) same_caller does.unrefused)

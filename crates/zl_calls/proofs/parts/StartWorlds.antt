@@ -1,10 +1,10 @@
 -- The call process_start in the midst of all processes: from what it did to a step, up to where processes wake.
-use Rattle.zl_calls.proofs.Common.{AreBlocked, AtCall, CallName, Calls, ClosesEach, ClosesHandle, Err, Handles, IsActed, IsAnsweredIn, IsConsistent, IsNamed}
-use Rattle.zl_calls.proofs.Common.{IsRefusedBy, IsToldIn, Kind, Library, List, Objects, Ok, Outcome, Parts, ProcessStartDoes, Result, Site, Some, StartsProcess}
-use Rattle.zl_calls.proofs.Common.{Status, TRANSFER, WRITE, World, [], ap, cpu_answered, false≢true, get, gives_refused, handle_operands, looked_up, next_for}
-use Rattle.zl_calls.proofs.Common.{next_looks, no_value, parts, process_start, process_value, refl, same_Some, set, site, slice_get, slice_set, start_refusal}
-use Rattle.zl_calls.proofs.Common.{starting, state_value, status_of, subst, sym, taken_handles, takes, told_by, true, wants_memory, without_handle, world_value}
-use Rattle.zl_calls.proofs.Common.{ℕ, ⊤, ◌∙◌, ◌∷◌, ◌≡◌}
+use Rattle.zl_calls.proofs.Common.{AreBlocked, AtCall, CallName, ClosesEach, ClosesHandle, Err, Handles, IsActed, IsAnsweredIn, IsConsistent, IsNamed}
+use Rattle.zl_calls.proofs.Common.{IsRefusedBy, IsToldIn, Kind, Library, List, Objects, Ok, Outcome, Parts, PlainCalls, ProcessStartDoes, Result, Site, Some}
+use Rattle.zl_calls.proofs.Common.{StartsProcess, Status, TRANSFER, WRITE, World, [], ap, cpu_answered, false≢true, get, gives_refused, handle_operands}
+use Rattle.zl_calls.proofs.Common.{looked_up, next_for, next_looks, no_value, parts, process_start, process_value, refl, same_Some, set, site, slice_get}
+use Rattle.zl_calls.proofs.Common.{slice_set, start_refusal, starting, state_value, status_of, subst, sym, taken_handles, takes, told_by, true, wants_memory}
+use Rattle.zl_calls.proofs.Common.{without_handle, world_value, ℕ, ⊤, ◌∙◌, ◌∷◌, ◌≡◌}
 use Rattle.zl_code.specs.declared.history.Outcome.TheVariants as outcome
 use Rattle.zl_code.specs.declared.history.TraceItem.TheVariants as item
 use Rattle.zl_rights.specs.declared.kind.Kind.TheVariants as kind
@@ -140,8 +140,8 @@ module _ {ps : List Process} {r : Objects} {blocked : List ℕ} {pid place : ℕ
     objects_are : all2.objects ≡ begun
     objects_are = tells.objects ∙ does.objects
 
-    relates : (c : Calls lib (world_value ps r) p.pid s (outcome.Answered status.Ok) (world_value after begun)) × (c.0 ≡ Values (does.value ∷ []))
-    relates = subst (λ (w : World). (c : Calls lib (world_value ps r) p.pid s (outcome.Answered status.Ok) w) × (c.0 ≡ Values (does.value ∷ [])))
+    relates : (c : PlainCalls lib (world_value ps r) p.pid s (outcome.Answered status.Ok) (world_value after begun)) × (c.0 ≡ Values (does.value ∷ []))
+    relates = subst (λ (w : World). (c : PlainCalls lib (world_value ps r) p.pid s (outcome.Answered status.Ok) w) × (c.0 ≡ Values (does.value ∷ [])))
         (λ i. world_value (processes_are i) (objects_are i)) (start_relates at_place turn.ready turn.consistent.processes_in_order does tells)
 
     begun_own : IsOwnCall lib ps after r begun p.pid name (outcome.Answered status.Ok)

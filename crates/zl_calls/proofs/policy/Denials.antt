@@ -8,7 +8,7 @@ use Rattle.zl_rights.specs.declared.policy.Action.TheVariants as action
 use Rattle.zl_rights.specs.declared.policy.Condition.TheVariants as condition
 use Rattle.zl_rights.specs.declared.status.Status.TheVariants as status
 use Rattle.zl_code.specs.declared.history.Outcome.TheVariants as outcome
-use Rattle.zl_objects.specs.Jobs.{action_of}
+use Rattle.zl_objects.specs.Jobs.{action_here}
 use Rattle.zl_objects.specs.declared.object.Object.{Object}
 use Rattle.zl_calls.specs.declared.policy.Verdict.TheVariants as verdict
 use Rattle.zl_calls.proofs.policy.Policies.{ending}
@@ -40,7 +40,7 @@ denied_object entries objects p request is = by_job (job_in (get objects p)) is
     by_job : (job : Option ℕ) → verdict_in objects job (operands_fault entries [] (handle_operands request)) (condition_of request) ≡ Some verdict.Denied
         → (c : Condition) × (condition_of request ≡ Some c)
     by_job None is = absurd (none-some _ is)
-    by_job (Some job) is = denied_makes (action_of (job_at objects job)) (operands_fault entries [] (handle_operands request)) (condition_of request) is
+    by_job (Some job) is = denied_makes (action_here (job_at objects job)) (operands_fault entries [] (handle_operands request)) (condition_of request) is
 
 -- a call that makes an object takes no handle
 taken_if_making : (request : Request) → (if is_some (condition_of request) then taken_handles request else []) ≡ []

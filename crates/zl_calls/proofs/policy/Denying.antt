@@ -6,7 +6,7 @@ use Rattle.zl_code.specs.declared.history.CallName.TheVariants as name
 use Rattle.zl_code.specs.declared.history.Outcome.TheVariants as outcome
 use Rattle.zl_rights.specs.declared.status.Status.TheVariants as status
 use Rattle.zl_calls.specs.Policed.{IsDenied}
-use Rattle.zl_calls.specs.declared.process.Process.{Process as ProcessValue}
+use Rattle.zl_calls.specs.declared.process.Process.{Process}
 use Rattle.zl_calls.proofs.policy.Examining.{if_there}
 
 abbrev told_at : CallName → List ℕ → List ℕ → Cpu → Cpu
@@ -27,7 +27,7 @@ denied_cpu n rs last c k making =
     ∙ ap (λ (o : Option Condition). if is_some o then told_by_row n rs c else c) making
 
 -- a call that makes an object is denied by its answer
-pub denied_there : (i : CallInstr) (p p2 : ProcessValue) (r : Objects) (k : Condition) → (call_row i.name).condition ≡ Some k
+pub denied_there : (i : CallInstr) (p p2 : Process) (r : Objects) (k : Condition) → (call_row i.name).condition ≡ Some k
     → p2 ≡ record p { cpu = answered p.cpu (those is_written (call_row i.name).fields 0 i.registers) (status_magnitude status.AccessDenied ∷ []) }
     → IfSome (site_of i p.cpu) (λ s. IsDenied s p r (outcome.Answered status.AccessDenied) p2 r)
 denied_there i p p2 r k making after =

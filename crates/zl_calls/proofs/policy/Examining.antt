@@ -11,7 +11,7 @@ use Rattle.zl_rights.specs.declared.kind.Kind.TheVariants as kind
 use Rattle.zl_rights.specs.declared.status.Status.TheVariants as status
 use Rattle.zl_code.specs.declared.layout.Field.{Field}
 use Rattle.zl_calls.specs.FieldFaults.{field_fault}
-use Rattle.zl_objects.specs.Jobs.{action_of}
+use Rattle.zl_objects.specs.Jobs.{action_here}
 use Rattle.zl_objects.specs.declared.object.Object.{Object}
 
 -- a site that may not be there
@@ -73,6 +73,6 @@ module _ (entries : Map Entry) where
   -- what the policy of the process's job says by the row of a call, it says of its site
   pub judged : (objects : Map Object) (pid job : ℕ) (i : CallInstr) (c : Cpu) (r : Row) (says : Option Verdict) (f : Option Status)
       → Some job ≡ job_in (get objects pid) → r ≡ call_row i.name → f ≡ row_fault r i c
-      → says ≡ verdict_by (action_of (job_at objects job)) f r.condition → IfSome (site_of i c) (λ s. says ≡ verdict_on entries objects pid s.request)
+      → says ≡ verdict_by (action_here (job_at objects job)) f r.condition → IfSome (site_of i c) (λ s. says ≡ verdict_on entries objects pid s.request)
   judged objects pid job i c r says f is row fault same =
       at_row i c (λ made f. says ≡ verdict_in objects (job_in (get objects pid)) f made) (rw (← is, ← row, ← fault) same)

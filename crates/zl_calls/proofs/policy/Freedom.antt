@@ -1,11 +1,11 @@
 -- Where the policy of a process's job has no verdict on its call, no policy has a say at all.
 use Rattle.zl_calls.proofs.Common.{AtCall, Bool, CallName, IsConsistent, JobBody, Library, List, Map, Next, None, Objects, Option, Site, Some, World, ap, arith}
-use Rattle.zl_calls.proofs.Common.{body_in, body_value, false, false≢true, get, get_seen, is_job_at, is_job_body, is_job_in, is_ready, lives, map, next_for}
-use Rattle.zl_calls.proofs.Common.{object_entry, object_value, option_map, process_entry, process_value, refl, refusal, same_Some, state_value, subst, sym}
-use Rattle.zl_calls.proofs.Common.{true, verdict_on, world_blocked, ℕ, ◌∙◌, ◌≡◌}
+use Rattle.zl_calls.proofs.Common.{body_in, body_value, false, false≢true, get, get_seen, is_job_at, is_job_here, is_job_in, is_ready, lives, map, next_for}
+use Rattle.zl_calls.proofs.Common.{object_entry, object_value, option_map, plain_refusal, process_entry, process_value, refl, same_Some, state_value, subst}
+use Rattle.zl_calls.proofs.Common.{sym, true, verdict_on, world_blocked, ℕ, ◌∙◌, ◌≡◌}
 use Rattle.zl_code.proofs.Common.{Body as BodyValue, Process as ProcessValue}
-use Rattle.zl_code.specs.Refusals.{refusal as policed_refusal}
-use Rattle.zl_code.specs.Sound.{IsSound as IsSoundWorld}
+use Rattle.zl_code.specs.Refusals.{refusal}
+use Rattle.zl_code.specs.Sound.{IsSound}
 use Rattle.zl_objects.specs.declared.object.Body.{Body}
 use Rattle.zl_objects.specs.declared.object.Body.TheVariants as body
 use Rattle.zl_objects.specs.declared.object.Object.{Object}
@@ -32,7 +32,7 @@ job_seen : (o : Option Object) → is_job_in o ≡ is_job_value (body_in (option
 job_seen None = refl
 job_seen (Some o) = by_body o.body
   where
-    by_body : (b : Body) → is_job_body b ≡ is_job_value (Some (body_value b))
+    by_body : (b : Body) → is_job_here b ≡ is_job_value (Some (body_value b))
     by_body (body.Job job) = refl
     by_body _ = refl
 
@@ -41,7 +41,7 @@ ready_lives state.Ready h = refl
 ready_lives _ h = absurd (false≢true h)
 
 module _ (lib : Library) (ps : List Process) (r : Objects) (consistent : IsConsistent ps r) (blocked : List ℕ)
-    (sound : IsSoundWorld (world_blocked ps r blocked)) (p : Process)
+    (sound : IsSound (world_blocked ps r blocked)) (p : Process)
     (there : get (map process_entry ps) p.pid ≡ Some (process_value p)) (ready : is_ready (state_value p.state) ≡ true) where
   -- its object is no job
   no_job : is_job_at r.objects p.pid ≡ false
@@ -66,6 +66,6 @@ module _ (lib : Library) (ps : List Process) (r : Objects) (consistent : IsConsi
     is_free w processes objects q t at stands =
         let same : process_value p ≡ q = same_Some (process_value p) q (sym there ∙ (ap (λ (m : Map ProcessValue). get m p.pid) (sym processes) ∙ at)) in
         let is_site : s ≡ t = ap (λ n. site_in n s) (sym next ∙ (ap (next_for lib) same ∙ stands)) in
-        let free : policed_refusal lib w p.pid s.request ≡ refusal lib w p.pid s.request =
+        let free : refusal lib w p.pid s.request ≡ plain_refusal lib w p.pid s.request =
         unpoliced lib w p.pid p.table.entries r.objects (is_seen w processes objects) s.request none in
-        subst (λ (x : Site). policed_refusal lib w p.pid x.request ≡ refusal lib w p.pid x.request) is_site free
+        subst (λ (x : Site). refusal lib w p.pid x.request ≡ plain_refusal lib w p.pid x.request) is_site free

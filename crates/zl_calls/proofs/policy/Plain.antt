@@ -17,9 +17,9 @@ answers None = None
 answers (Some s) = Some (outcome.Answered s)
 
 -- The answer of a call other than OK: the fault of the first handle operand that has one, from left to right, then the listed answers.
-unfoldable pub refusal : Library → World → ℕ → Request → Option Outcome
-refusal lib w p request = first_some (answers (operands_fault (table_of w p) [] (handle_operands request)) ∷ listed lib w p request)
+unfoldable pub plain_refusal : Library → World → ℕ → Request → Option Outcome
+plain_refusal lib w p request = first_some (answers (operands_fault (table_of w p) [] (handle_operands request)) ∷ listed lib w p request)
 
 -- the call of p in w may end so, with w2
-abbrev pub Calls : Library → World → ℕ → Site → Outcome → World → Type 0
-Calls lib w p s answer w2 = (choice : Choice) × CallBy lib w p s choice (refusal lib w p s.request) answer w2
+abbrev pub PlainCalls : Library → World → ℕ → Site → Outcome → World → Type 0
+PlainCalls lib w p s answer w2 = (choice : Choice) × CallBy lib w p s choice (plain_refusal lib w p s.request) answer w2

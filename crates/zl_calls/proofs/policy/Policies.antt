@@ -1,7 +1,7 @@
 -- The refusal of a call: the verdict of a policy, and behind it the refusal where no policy decides.
 use Rattle.zl_calls.proofs.Common.{BY_POLICY, Bool, Condition, Entry, Err, Library, List, Map, None, Ok, Operand, Option, Outcome, Request, Result, Some}
 use Rattle.zl_calls.proofs.Common.{Status, Verdict, World, [], ap, body_in, body_value, condition_number, condition_of, contains, entry_at, examined, false}
-use Rattle.zl_calls.proofs.Common.{first_some, get, get_seen, granted, handle_operands, if◌then◌else◌, is_job_at, is_job_body, is_job_in, job_at, job_in}
+use Rattle.zl_calls.proofs.Common.{first_some, get, get_seen, granted, handle_operands, if◌then◌else◌, is_job_at, is_job_here, is_job_in, job_at, job_in}
 use Rattle.zl_calls.proofs.Common.{job_of, listed, map, object_entry, object_value, on_fault_by, operand, operands_fault, option_map, option_or, parent_of}
 use Rattle.zl_calls.proofs.Common.{policy_in, refl, result_err, subst, sym, table_of, true, true≢false, unwrap_or, verdict_by, verdict_in, verdict_on, ℕ, ◌&&◌}
 use Rattle.zl_calls.proofs.Common.{◌==◌, ◌∙◌, ◌∷◌, ◌≡◌}
@@ -11,13 +11,13 @@ use Rattle.zl_rights.specs.declared.status.Status.TheVariants as status
 use Rattle.zl_code.proofs.Common.{Action, action_of, by_look_up, by_policy, creates, ends_if_kill, operand_after, parent_in, refusal, seen_after}
 use Rattle.zl_code.proofs.Common.{unless_allowed}
 use Rattle.zl_code.specs.declared.history.Outcome.TheVariants as outcome
-use Rattle.zl_objects.specs.Jobs.{action_of as job_action, as_job, as_job_in}
+use Rattle.zl_objects.specs.Jobs.{action_here, as_job, as_job_in}
 use Rattle.zl_objects.specs.declared.object.Body.{Body}
 use Rattle.zl_objects.specs.declared.object.Body.TheVariants as body
 use Rattle.zl_objects.specs.declared.object.Object.{Object}
 use Rattle.zl_calls.specs.Policed.{fault_after, on_making}
 use Rattle.zl_calls.specs.declared.policy.Verdict.TheVariants as verdict
-use Rattle.zl_calls.proofs.policy.Plain.{answers, refusal as plain_refusal}
+use Rattle.zl_calls.proofs.policy.Plain.{answers, plain_refusal}
 
 -- ---- verdicts
 
@@ -136,7 +136,7 @@ module _ (w : World) (p : ℕ) where
 -- how the job decides, if there is one
 abbrev decides_in : Map Object → Option ℕ → Condition → Action
 decides_in objects None c = action.Allow
-decides_in objects (Some job) c = job_action (job_at objects job) c
+decides_in objects (Some job) c = action_here (job_at objects job) c
 
 -- where everything is allowed, there is no verdict
 pub verdict_allowed : (f : Option Status) (c : Option Condition) → verdict_by (λ _. action.Allow) f c ≡ None
@@ -153,12 +153,12 @@ verdict_decided objects None f c = verdict_allowed f c
 
 -- the action of an object that was found
 pub seen_action : (o : Option Object) (c : Condition)
-    → unwrap_or (get (policy_in (body_in (option_map object_value o))) (condition_number c)) action.Allow ≡ job_action (as_job_in o) c
+    → unwrap_or (get (policy_in (body_in (option_map object_value o))) (condition_number c)) action.Allow ≡ action_here (as_job_in o) c
 unfolding get
 seen_action None c = refl
 seen_action (Some o) c = by_body o.body
   where
-    by_body : (b : Body) → unwrap_or (get (policy_in (Some (body_value b))) (condition_number c)) action.Allow ≡ job_action (as_job b) c
+    by_body : (b : Body) → unwrap_or (get (policy_in (Some (body_value b))) (condition_number c)) action.Allow ≡ action_here (as_job b) c
     by_body (body.Job job) = refl
     by_body _ = refl
 
@@ -166,13 +166,13 @@ module _ (w : World) (p : ℕ) (entries : Map Entry) (objects : Map Object) (see
   found : (k : ℕ) → get w.objects k ≡ option_map object_value (get objects k)
   found k = ap (λ m. get m k) seen.objects_are ∙ get_seen objects k
 
-  action_seen : (k : ℕ) (c : Condition) → action_of w k c ≡ job_action (job_at objects k) c
+  action_seen : (k : ℕ) (c : Condition) → action_of w k c ≡ action_here (job_at objects k) c
   action_seen k c = rw (found k) (seen_action (get objects k) c)
 
   parent_seen : parent_of w p ≡ unwrap_or (job_in (get objects p)) 0
   parent_seen = rw (found p) (by_object (get objects p) seen.no_job)
     where
-      by_body : (b : Body) → is_job_body b ≡ false → parent_in (Some (body_value b)) ≡ unwrap_or (job_of b) 0
+      by_body : (b : Body) → is_job_here b ≡ false → parent_in (Some (body_value b)) ≡ unwrap_or (job_of b) 0
       by_body (body.Job job) free = absurd (true≢false free)
       by_body (body.Process job life) free = refl
       by_body _ free = refl

@@ -4,8 +4,8 @@ use Rattle.zl_calls.proofs.Common.{Library, List, Objects, Outcome, Policed, Rea
 use Rattle.zl_calls.proofs.Common.{is_blocking, is_ready, next_for, not, process_value, refl, replied, replied_among, settles_waiting, state_value, subst, sym}
 use Rattle.zl_calls.proofs.Common.{verdict_on, with_waiters, world_blocked, world_left, world_value, ℕ, ◌==◌, ◌∙◌, ◌≡◌}
 use Rattle.zl_rights.specs.declared.status.Status.TheVariants as status
-use Rattle.zl_code.proofs.Common.{Calls, IsSound as IsSoundWorld}
-use Rattle.zl_code.specs.Refusals.{refusal as policed_refusal}
+use Rattle.zl_code.proofs.Common.{Calls, IsSound}
+use Rattle.zl_code.specs.Refusals.{refusal}
 use Rattle.zl_code.proofs.StepsWaiting.{is_left as is_left_at_port}
 use Rattle.zl_code.proofs.Waiters.{ended_among}
 use Rattle.zl_code.specs.declared.history.TraceItem.TheVariants as item
@@ -65,7 +65,7 @@ module _ {before after : List Process} {r : Objects} {p p2 : Process} (lib : Lib
 
   -- ---- beside registered waits and blocked processes
 
-  module _ (call : CallName) (next : next_for lib (process_value p) ≡ AtCall call s) (blocked : List ℕ) (sound : IsSoundWorld (world_blocked before r blocked))
+  module _ (call : CallName) (next : next_for lib (process_value p) ≡ AtCall call s) (blocked : List ℕ) (sound : IsSound (world_blocked before r blocked))
       (are : AreBlocked before blocked) where
     abbrev W : World
     W = world_blocked before r blocked
@@ -73,7 +73,7 @@ module _ {before after : List Process} {r : Objects} {p p2 : Process} (lib : Lib
     abbrev Acts : Type 0
     Acts = IsActed lib W p.pid (item.Call p.pid call o) (world_left (left_all after r2) r2 blocked)
 
-    pub refused : (v : Verdict) → Judged v → policed_refusal lib W p.pid s.request ≡ Some (ending v)
+    pub refused : (v : Verdict) → Judged v → refusal lib W p.pid s.request ≡ Some (ending v)
     refused v is =
         policed lib W p.pid p.table.entries r.objects (is_seen lib before r consistent blocked sound p write.there (ap is_ready ready) W
         refl refl) s.request v is

@@ -4,7 +4,7 @@ use Rattle.zl_calls.proofs.Common.{condition_of, false, get, handle_operands, is
 use Rattle.zl_calls.proofs.Common.{verdict_in, verdict_on, ℕ, ◌∙◌, ◌∷◌, ◌≡◌}
 use Rattle.zl_rights.specs.Policies.{action_in}
 use Rattle.zl_rights.specs.declared.policy.Action.{Action}
-use Rattle.zl_objects.specs.Jobs.{action_of, has_actions}
+use Rattle.zl_objects.specs.Jobs.{action_here, has_actions}
 use Rattle.zl_objects.specs.declared.object.Object.{Object}
 use Rattle.zl_calls.specs.declared.policy.Verdict.TheVariants as verdict
 use Rattle.zl_calls.specs.declared.process.Process.{Process}
@@ -16,7 +16,7 @@ at_site None P all = tt
 at_site (Some s) P all = all s
 
 -- where nothing is set in the policy of the job, there is no verdict
-nothing_set : (o : Option Job) → has_actions o ≡ false → (f : Option Status) (c : Option Condition) → verdict_by (action_of o) f c ≡ None
+nothing_set : (o : Option Job) → has_actions o ≡ false → (f : Option Status) (c : Option Condition) → verdict_by (action_here o) f c ≡ None
 unfolding get
 nothing_set None bare f c = verdict_allowed f c
 nothing_set (Some job) bare f c = by_actions job.policy bare

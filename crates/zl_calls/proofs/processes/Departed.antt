@@ -5,7 +5,7 @@ use Rattle.zl_calls.proofs.Common.{is_blocked, is_process, is_some, is_sorted, l
 use Rattle.zl_calls.proofs.Common.{option_map, passes, process_entry, process_settled, queued_to, refl, same_Some, same_map, state_passes, state_value}
 use Rattle.zl_calls.proofs.Common.{state_without, subst, sum_by, sum_by-cons, sym, true, where_key, with_all, without_others, world_value, ℕ, ◌+◌, ◌<◌, ◌==◌}
 use Rattle.zl_calls.proofs.Common.{◌^◌, ◌∙◌, ◌∷◌, ◌≡◌}
-use Rattle.zl_code.proofs.Common.{Process as ProcessValue, Object as ObjectValue, State as StateValue}
+use Rattle.zl_code.proofs.Common.{Process as ProcessValue, Object, State as StateValue}
 use Rattle.zl_calls.specs.declared.process.State.{State}
 use Rattle.zl_calls.specs.declared.process.State.TheVariants as state
 use Rattle.zl_calls.specs.declared.process.Process.{Process}
@@ -118,7 +118,7 @@ module _ (ps : List Process) (r : Objects) where
 
   pub same_counts : (k : ℕ) → handles_to (settled_world ps r) k ≡ handles_to (world_value ps r) k
   unfolding handles_to
-  same_counts k = ap (λ n. n + sum_by (λ (o : ℕ × ObjectValue). queued_to k o.1.body) (map object_entry r.objects)) (summed_left k ps)
+  same_counts k = ap (λ n. n + sum_by (λ (o : ℕ × Object). queued_to k o.1.body) (map object_entry r.objects)) (summed_left k ps)
 
   pub left_keeps : IsConsistent ps r → IsConsistent (left_all ps r) r
   unfolding is_process

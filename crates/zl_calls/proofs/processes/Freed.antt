@@ -1,15 +1,14 @@
 -- The values that processes have for new handles, as one of them changes.
-use Rattle.zl_calls.proofs.Common.{Bool, IsTrue, List, Map, None, Option, Some, [], ap, cases_Bool, eqb-true, cond, false, get, get-update, inl, inr}
-use Rattle.zl_calls.proofs.Common.{lives}
-use Rattle.zl_calls.proofs.Common.{map, option_map, process_at, process_entry, process_value, refl, set, state_value, suc, sym, true, zero, ℕ, ◌==◌}
-use Rattle.zl_calls.proofs.Common.{◌∙◌, ◌∷◌, ◌≡◌, if◌then◌else◌, ◌⊎◌}
+use Rattle.zl_calls.proofs.Common.{Bool, IsTrue, List, Map, None, Option, Some, [], ap, cases_Bool, eqb-true, cond, false, get, get-update, inl, inr, lives}
+use Rattle.zl_calls.proofs.Common.{map, option_map, process_at, process_entry, process_value, refl, set, state_value, suc, sym, true, zero, ℕ, ◌==◌, ◌∙◌, ◌∷◌}
+use Rattle.zl_calls.proofs.Common.{◌≡◌, if◌then◌else◌, ◌⊎◌}
 use Rattle.std.specs.Prelude.{slice_index_or}
 use Rattle.zl_code.specs.Own.{free_at, free_or}
 use Rattle.zl_rights.specs.Values.{Free, new_free}
 use Rattle.zl_calls.specs.Own.{FreeBy, living}
 use Rattle.zl_calls.specs.World.{free_entry, free_of}
-use Rattle.zl_calls.proofs.Common.{ClosesAllEnded, ClosesEnded, Objects, ended_if, ended_within, has_key, is_within, same_Some, slice_get, slice_set, subst, ⊤}
-use Rattle.zl_calls.proofs.Common.{◌&&◌, ◌++◌}
+use Rattle.zl_calls.proofs.Common.{ClosesAllEnded, ClosesEnded, Objects, ended_if, ended_within, has_key, is_within_here, same_Some, slice_get, slice_set}
+use Rattle.zl_calls.proofs.Common.{subst, ⊤, ◌&&◌, ◌++◌}
 use Rattle.zl_calls.specs.calls.Task.{is_over, lives_on, none_left, one_more}
 use Rattle.zl_objects.specs.declared.object.Object.{Object}
 use Rattle.zl_calls.specs.Leaving.{left_beside, left_state}
@@ -160,7 +159,7 @@ ended_kept false q = (refl, λ f same. same)
 
 within_kept : (r : Objects) (t : ℕ) (ps : List Process) → AreKept ps (map (ended_within r t) ps)
 within_kept r t [] = tt
-within_kept r t (q ∷ ps) = (ended_kept (lives (state_value q.state) && is_within r.objects t q.pid) q, within_kept r t ps)
+within_kept r t (q ∷ ps) = (ended_kept (lives (state_value q.state) && is_within_here r.objects t q.pid) q, within_kept r t ps)
 
 closed_kept : (p q : Process) (r r2 : Objects) → ClosesEnded p r q r2 → IsKept p q
 closed_kept _ _ _ _ (lives_on p r alive) = (refl, λ f same. same)

@@ -2,7 +2,7 @@
 use Rattle.zl_calls.proofs.Common.{AreClosed, IsTrue, List, Objects, Some, [], eq-eqb, false, false≢true, get, is_created, is_sorted, lives, map, nat_cmp}
 use Rattle.zl_calls.proofs.Common.{none-some, process_entry, process_value, refl, runs, same_Some, slice_get, sorted_parts, state_value, suc, sym, true}
 use Rattle.zl_calls.proofs.Common.{world_blocked, zero, ℕ, ◌∷◌, ◌≡◌}
-use Rattle.zl_code.specs.Sound.{IsSound as IsSoundWorld}
+use Rattle.zl_code.specs.Sound.{IsSound}
 use Rattle.zl_calls.specs.declared.process.State.{State}
 use Rattle.zl_calls.specs.declared.process.State.TheVariants as state
 use Rattle.zl_calls.specs.declared.process.Process.{Process}
@@ -22,12 +22,12 @@ not_running state.Created h = refl
 not_running _ h = absurd (false≢true h)
 
 pub are_bare : (ps : List Process) (r : Objects) (blocked : List ℕ) → IsTrue (is_sorted nat_cmp (map process_entry ps))
-    → IsSoundWorld (world_blocked ps r blocked) → (n : ℕ) (q : Process) → slice_get ps n ≡ Some q
+    → IsSound (world_blocked ps r blocked) → (n : ℕ) (q : Process) → slice_get ps n ≡ Some q
     → is_created (state_value q.state) ≡ true → q.table.entries ≡ []
 are_bare ps r blocked sorted sound n q at created = ((sound.tables q.pid (process_value q) (get_placed ps sorted n q at)).idle (not_running q.state created)).0
 
 pub are_closed : (ps : List Process) (r : Objects) (blocked : List ℕ) → IsTrue (is_sorted nat_cmp (map process_entry ps))
-    → IsSoundWorld (world_blocked ps r blocked) → AreClosed ps
+    → IsSound (world_blocked ps r blocked) → AreClosed ps
 are_closed ps r blocked sorted sound n q at over =
     (sound.tables q.pid (process_value q) (get_placed ps sorted n q at)).idle (is_idle q.state over)
   where

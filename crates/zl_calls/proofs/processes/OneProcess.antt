@@ -1,21 +1,21 @@
 -- One process more, with its object: what the invariant says of both.
-use Rattle.zl_calls.proofs.Common.{Agrees, All, All-nil, AreNamed, Bool, Entry, IsNamed, IsSound, IsTable, IsTrue, Life, List, Map, Message, Objects, Some, []}
+use Rattle.zl_calls.proofs.Common.{Agrees, All, All-nil, AreNamed, AreSound, Bool, Entry, IsNamed, IsTable, IsTrue, Life, List, Map, Message, Objects, Some, []}
 use Rattle.zl_calls.proofs.Common.{ap, arith, cases_Bool, cond, count_by, eq-eqb, eqb-true, false, get, get-put, handles_to, if◌then◌else◌, inl, inr, is_in_job}
 use Rattle.zl_calls.proofs.Common.{is_process, map, map-append, new_object, process_entry, process_value, put, put_key, put_last, refl, same_Some, sorted_put}
 use Rattle.zl_calls.proofs.Common.{state_value, subst, sum_by, sum_by-append, sum_by-cons, sym, with_new, world_value, ℕ, ◌++◌, ◌+◌, ◌<◌, ◌==◌, ◌^◌, ◌∙◌, ◌∷◌}
 use Rattle.zl_calls.proofs.Common.{◌≡◌, ◌⊎◌}
-use Rattle.zl_code.proofs.Common.{Process as ProcessValue, State as StateValue}
+use Rattle.zl_code.proofs.Common.{Process as ProcessValue, State}
 use Rattle.zl_objects.specs.declared.object.Body.{Body}
 use Rattle.zl_objects.specs.declared.object.Body.TheVariants as body
 use Rattle.zl_objects.specs.declared.object.Object.{Object}
-use Rattle.zl_objects.specs.Objects.{queue_of}
+use Rattle.zl_objects.specs.Objects.{queue_held}
 use Rattle.zl_calls.specs.declared.process.Process.{Process}
 use Rattle.zl_calls.proofs.objects.Counting.{queues_grown}
 use Rattle.zl_calls.proofs.objects.Grown.{found_grown, grown_in_order, grown_named, still_in_job, unnamed}
 use Rattle.zl_calls.proofs.objects.SameBodies.{still_agrees, still_named}
 
 -- so many handles name the object of the process p, which is the last of all
-module _ (ps : List Process) (m : Map Entry) (r : Objects) (sound : IsSound ps m r) (p : Process) (pid : p.pid ≡ r.next_koid) (job : ℕ) (own : Life)
+module _ (ps : List Process) (m : Map Entry) (r : Objects) (sound : AreSound ps m r) (p : Process) (pid : p.pid ≡ r.next_koid) (job : ℕ) (own : Life)
     (count : ℕ) where
   abbrev n : ℕ
   n = r.next_koid
@@ -47,11 +47,11 @@ module _ (ps : List Process) (m : Map Entry) (r : Objects) (sound : IsSound ps m
       let read : (if n == j then Some (process_value p) else get (map process_entry ps) j) ≡ Some q = sym (get_process j) ∙ at in
       elim (cases_Bool (n == j)) as (λ _. A) [ inl here ↦ new (same_Some (process_value p) q (rw here at read)) | inr apart ↦ old (rw apart at read) ]
 
-  pub new_is : (test : StateValue → Bool) → is_process (world_value after grown) test n ≡ test (state_value p.state)
+  pub new_is : (test : State → Bool) → is_process (world_value after grown) test n ≡ test (state_value p.state)
   unfolding is_process
   new_is test = rw (get_process n, eq-eqb n n refl) refl
 
-  others : (j : ℕ) → (n == j) ≡ false → (test : StateValue → Bool) → is_process (world_value after grown) test j ≡ is_process (world_value ps r) test j
+  others : (j : ℕ) → (n == j) ≡ false → (test : State → Bool) → is_process (world_value after grown) test j ≡ is_process (world_value ps r) test j
   unfolding is_process
   others j apart test = rw (get_process j, apart) refl
 
@@ -82,7 +82,7 @@ module _ (ps : List Process) (m : Map Entry) (r : Objects) (sound : IsSound ps m
     below (inl same) old = omega (arith, same)
     below (inr there) old = omega (arith, old there)
 
-    pub process_sound : IsSound after m2 grown
+    pub process_sound : AreSound after m2 grown
     process_sound = record {
       processes_in_order = rw processes_are (sorted_put (map process_entry ps) n (process_value p) sound.processes_in_order);
       objects_in_order = grown_in_order ps m r sound b count;
@@ -99,9 +99,9 @@ module _ (ps : List Process) (m : Map Entry) (r : Objects) (sound : IsSound ps m
       named = λ k q v e at there. grown_named ps m r sound b count e
           (found_process (IsNamed r.objects e) k q at (λ is. names v e (ap (λ (x : ProcessValue). get x.handles v) is ∙ there))
           (λ old. sound.named k q v e old there));
-      queued = λ j q at. found_grown ps m r sound b count (AreNamed grown.objects (queue_of q.body)) j q at
-          (λ here is. subst (λ (x : Object). AreNamed grown.objects (queue_of x.body)) is (All-nil (λ (x : Message). All (IsNamed grown.objects) x.handles)))
-          (λ apart old. still_named r.objects grown.objects (grown_named ps m r sound b count) (queue_of q.body) (sound.queued j q old));
+      queued = λ j q at. found_grown ps m r sound b count (AreNamed grown.objects (queue_held q.body)) j q at
+          (λ here is. subst (λ (x : Object). AreNamed grown.objects (queue_held x.body)) is (All-nil (λ (x : Message). All (IsNamed grown.objects) x.handles)))
+          (λ apart old. still_named r.objects grown.objects (grown_named ps m r sound b count) (queue_held q.body) (sound.queued j q old));
       counted = λ j q at. found_grown ps m r sound b count (q.handles ≡ handles_to (world_value after grown) j + count_by (λ h. h.1.koid == j) m2) j q at
           (λ here is.
           let same : n ≡ j = eqb-true n j here in

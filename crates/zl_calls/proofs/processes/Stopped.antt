@@ -1,17 +1,17 @@
 -- A process loses handles, or ends: the invariant but for what keeps the objects, and what nothing may keep then.
-use Rattle.zl_calls.proofs.Common.{Agrees, AreKeptBut, AreNamed, Bool, Ended, Entry, IsConsistent, IsNamed, IsSound, IsTable, IsTrue, List, Map, None, Objects}
+use Rattle.zl_calls.proofs.Common.{Agrees, AreKeptBut, AreNamed, AreSound, Bool, Ended, Entry, IsConsistent, IsNamed, IsTable, IsTrue, List, Map, None, Objects}
 use Rattle.zl_calls.proofs.Common.{Option, Releases, Some, [], ap, arith, body_value, cases_Bool, count_by, eq-eqb, eqb-true, false, get, handles_to, has_ended}
 use Rattle.zl_calls.proofs.Common.{has_key, has_key-update, inl, inr, is_in_job, is_process, is_sorted-update, job_in, job_of, kind_of, lives, map, none-some}
 use Rattle.zl_calls.proofs.Common.{object_entry, object_value, process_entry, process_value, queued_to, refl, runs, same_in_job, stopped, stopped_body}
 use Rattle.zl_calls.proofs.Common.{stopped_loose, stopping, subst, sum_by, sym, update, world_value, ℕ, ℤ, ◌+◌, ◌<◌, ◌==◌, ◌∙◌, ◌∷◌, ◌≡◌}
-use Rattle.zl_code.proofs.Common.{Process as ProcessValue, Object as ObjectValue, State as StateValue}
+use Rattle.zl_code.proofs.Common.{Process as ProcessValue, Object as ObjectValue, State}
 use Rattle.zl_objects.specs.declared.object.Body.{Body}
 use Rattle.zl_objects.specs.declared.object.Body.TheVariants as body
 use Rattle.zl_objects.specs.declared.object.Object.{Object}
 use Rattle.zl_calls.specs.declared.process.State.TheVariants as state
 use Rattle.zl_calls.specs.declared.process.Process.{Process}
-use Rattle.zl_objects.specs.Objects.{queue_of}
-use Rattle.zl_objects.specs.Release.{Ends as ObjectEnds, Ended as ObjectEnded}
+use Rattle.zl_objects.specs.Objects.{queue_held}
+use Rattle.zl_objects.specs.Release.{Ends as ObjectEnds, EndedHere}
 use Rattle.zl_calls.proofs.calls.Answered.{IsWrite}
 use Rattle.zl_calls.proofs.lists.Updates.{update_unseen}
 use Rattle.zl_calls.proofs.objects.Counting.{counts_fewer, queues}
@@ -30,7 +30,7 @@ module _ {before after : List Process} {p p2 : Process} (write : IsWrite before 
   still_given k there =
       consistent.given_processes k (sym (has_key-update (map process_entry before) p.pid (λ _. process_value p2) k) ∙ rw (after_is write) at there)
 
-  pub sound_after : p2.state ≡ p.state → IsSound after m r
+  pub sound_after : p2.state ≡ p.state → AreSound after m r
   sound_after same = written_sound write [] m r (sound_of before r consistent) (same_agrees write same r) table named
       (λ k. omega (arith, counts_fewer before after p p2 r r k (count_by (λ h. h.1.koid == k) m) write refl (fewer k)))
 
@@ -65,11 +65,11 @@ module _ {before after : List Process} {p p2 : Process} (write : IsWrite before 
   in_job_stopped b h = same_in_job r.objects ended.objects (jobs_kept stopped still_kind r.objects p.pid) b ∙ h
 
   module _ (code : ℤ) (over : p2.state ≡ state.Ended code) where
-    now : (test : StateValue → Bool) → is_process (world_value after ended) test p.pid ≡ test (Ended code)
+    now : (test : State → Bool) → is_process (world_value after ended) test p.pid ≡ test (Ended code)
     unfolding is_process
     now test = rw (get_after write p.pid, eq-eqb p.pid p.pid refl, over) refl
 
-    others_now : (j : ℕ) → (p.pid == j) ≡ false → (test : StateValue → Bool)
+    others_now : (j : ℕ) → (p.pid == j) ≡ false → (test : State → Bool)
         → is_process (world_value after ended) test j ≡ is_process (world_value before r) test j
     unfolding is_process
     others_now j apart test = rw (get_after write j, apart) refl
@@ -79,11 +79,11 @@ module _ {before after : List Process} {p p2 : Process} (write : IsWrite before 
     stopped_agrees (body.Process job alive) = record { running = sym (now runs); living = sym (now lives); over = sym (now has_ended) }
     stopped_agrees _ = now runs
 
-    same_queue : (b : Body) → queue_of (stopped_body b) ≡ queue_of b
+    same_queue : (b : Body) → queue_held (stopped_body b) ≡ queue_held b
     same_queue (body.Job own) = refl
     same_queue _ = refl
 
-    pub sound_stopped : IsSound after m ended
+    pub sound_stopped : AreSound after m ended
     sound_stopped = record {
       processes_in_order = rw (after_is write, is_sorted-update (map process_entry before) p.pid (λ _. process_value p2)) consistent.processes_in_order;
       objects_in_order = rw (is_sorted-update r.objects p.pid stopped) consistent.kept.in_order;
@@ -97,9 +97,9 @@ module _ {before after : List Process} {p p2 : Process} (write : IsWrite before 
       named = λ k q v e at there. found_after write (IsNamed ended.objects e) k q at
           (λ is. named_stopped e (named v e (ap (λ (x : ProcessValue). get x.handles v) is ∙ there)))
           (λ old. named_stopped e (consistent.named k q v e old there));
-      queued = each_updated (λ j q. AreNamed ended.objects (queue_of q.body)) stopped r.objects p.pid
-          (λ o old. rw (same_queue o.body) (still_named r.objects ended.objects named_stopped (queue_of o.body) (consistent.queued p.pid o old)))
-          (λ j q apart old. still_named r.objects ended.objects named_stopped (queue_of q.body) (consistent.queued j q old));
+      queued = each_updated (λ j q. AreNamed ended.objects (queue_held q.body)) stopped r.objects p.pid
+          (λ o old. rw (same_queue o.body) (still_named r.objects ended.objects named_stopped (queue_held o.body) (consistent.queued p.pid o old)))
+          (λ j q apart old. still_named r.objects ended.objects named_stopped (queue_held q.body) (consistent.queued j q old));
       counted = each_updated (λ j q. q.handles ≡ handles_to (world_value after ended) j + count_by (λ h. h.1.koid == j) m) stopped r.objects p.pid
           (λ o old. recounted p.pid o old) (λ j q apart old. recounted j q old);
       agrees = each_updated (λ j q. Agrees (world_value after ended) j q.body) stopped r.objects p.pid (λ o old. stopped_agrees o.body)
@@ -147,7 +147,7 @@ pub record IsOver (k : ℕ) (r r2 : Objects) : Type 0 where
 pub over : (k : ℕ) (r r2 : Objects) → AreKeptBut [] r.objects → ObjectEnds k r r2 → IsOver k r r2
 over k r r2 kept ends = by_job (job_in (get r.objects k)) refl ends
   where
-    by_job : (job : Option ℕ) → job_in (get r.objects k) ≡ job → ObjectEnded k job r r2 → IsOver k r r2
+    by_job : (job : Option ℕ) → job_in (get r.objects k) ≡ job → EndedHere k job r r2 → IsOver k r r2
     by_job (Some job) is releases = record { loose = job ∷ k ∷ []; kept = stopped_loose r k job is kept; releases = releases }
     by_job None is same =
         let still : stopping r k ≡ r = ap (λ (m : Map Object). record r { objects = m }) (not_stopped r.objects k is) in

@@ -1,9 +1,9 @@
 -- A process of the list is written: the map by pids, and what the invariant says of processes.
-use Rattle.zl_calls.proofs.Common.{Agrees, AreKeptBut, Bool, Entry, Inserts, IsConsistent, IsNamed, IsPlaceOf, IsSound, IsTable, IsTrue, List, Map, MatchOption}
-use Rattle.zl_calls.proofs.Common.{None, Objects, Option, Some, [], ap, arith, cases_Bool, cond, count_by, eqb-true, false, get, get-update, get_or, handles_to}
-use Rattle.zl_calls.proofs.Common.{has_key-update, inl, inr, is_process, is_sorted-update, length, map, none-some, option_map, position, process_entry}
-use Rattle.zl_calls.proofs.Common.{process_value, refl, same_Some, set, slice_get-get_or, state_passes, state_value, subst, sum_by-cons, sym, update}
-use Rattle.zl_calls.proofs.Common.{world_value, ℕ, ◌+◌, ◌<◌, ◌==◌, ◌∙◌, ◌∷◌, ◌≡◌, ◌⊎◌}
+use Rattle.zl_calls.proofs.Common.{Agrees, AreKeptBut, AreSound, Bool, Entry, Inserts, IsConsistent, IsNamed, IsPlaceOf, IsTable, IsTrue, List, Map}
+use Rattle.zl_calls.proofs.Common.{MatchOption, None, Objects, Option, Some, [], ap, arith, cases_Bool, cond, count_by, eqb-true, false, get, get-update}
+use Rattle.zl_calls.proofs.Common.{get_or, handles_to, has_key-update, inl, inr, is_process, is_sorted-update, length, map, none-some, option_map, position}
+use Rattle.zl_calls.proofs.Common.{process_entry, process_value, refl, same_Some, set, slice_get-get_or, state_passes, state_value, subst, sum_by-cons, sym}
+use Rattle.zl_calls.proofs.Common.{update, world_value, ℕ, ◌+◌, ◌<◌, ◌==◌, ◌∙◌, ◌∷◌, ◌≡◌, ◌⊎◌}
 use Rattle.zl_code.proofs.Common.{Process as ProcessValue, State as StateValue}
 use Rattle.zl_calls.specs.declared.process.State.{State}
 use Rattle.zl_objects.specs.declared.object.Body.{Body}
@@ -92,11 +92,11 @@ module _ {before after : List Process} {p p2 : Process} (write : IsWrite before 
   same_agrees same r k b = still_agrees (world_value before r) (world_value after r) k b (same_states same r r k)
 
   -- the handles m counted beside those in tables and queues, and m2 do now
-  pub written_sound : (m m2 : Map Entry) (r : Objects) → IsSound before m r
+  pub written_sound : (m m2 : Map Entry) (r : Objects) → AreSound before m r
       → ((k : ℕ) (b : Body) → Agrees (world_value before r) k b → Agrees (world_value after r) k b)
       → IsTable p2.table.entries → ((v : ℕ) (e : Entry) → get p2.table.entries v ≡ Some e → IsNamed r.objects e)
       → ((k : ℕ) → handles_to (world_value after r) k + count_by (λ h. h.1.koid == k) m2
-      ≡ handles_to (world_value before r) k + count_by (λ h. h.1.koid == k) m) → IsSound after m2 r
+      ≡ handles_to (world_value before r) k + count_by (λ h. h.1.koid == k) m) → AreSound after m2 r
   written_sound m m2 r sound agree table named counts = record {
     processes_in_order = rw (after_is, is_sorted-update (map process_entry before) p.pid (λ _. process_value p2)) sound.processes_in_order;
     objects_in_order = sound.objects_in_order;
@@ -117,7 +117,7 @@ module _ {before after : List Process} {p p2 : Process} (write : IsWrite before 
   }
 
   -- the handles m have entered its table
-  pub entered : (m : Map Entry) (r : Objects) → IsSound before m r → AreKeptBut [] r.objects
+  pub entered : (m : Map Entry) (r : Objects) → AreSound before m r → AreKeptBut [] r.objects
       → ((k : ℕ) (b : Body) → Agrees (world_value before r) k b → Agrees (world_value after r) k b)
       → IsTable p2.table.entries → ((v : ℕ) (e : Entry) → get p2.table.entries v ≡ Some e → IsNamed r.objects e)
       → ((k : ℕ) → handles_to (world_value after r) k ≡ handles_to (world_value before r) k + count_by (λ h. h.1.koid == k) m) → IsConsistent after r
@@ -147,7 +147,7 @@ module _ {before after : List Process} {p p2 : Process} (write : IsWrite before 
     inserted_counts r j = counts_written before after p p2 r r j (cond (e.koid == j) 1 0) write refl
         (ap (λ (m : Map Entry). count_by (λ x. x.1.koid == j) m) inserts.entries ∙ count_put (λ x. x.1.koid == j) p.table.entries made e inserts.unused)
 
-    pub one_entered : (r : Objects) → IsSound before ((made, e) ∷ []) r → AreKeptBut [] r.objects → p2.state ≡ p.state → length p.table.entries < 1024
+    pub one_entered : (r : Objects) → AreSound before ((made, e) ∷ []) r → AreKeptBut [] r.objects → p2.state ≡ p.state → length p.table.entries < 1024
         → IsNamed r.objects e → IsConsistent after r
     one_entered r sound kept state room named = entered ((made, e) ∷ []) r sound kept (same_agrees state r)
         (inserted_table p.table e made p2.table (sound.tables p.pid (process_value p) write.there) room inserts)

@@ -1,10 +1,9 @@
 -- What a process did by itself comes back to the world: what stands there for it, and the steps that these instructions are.
 use Rattle.zl_calls.proofs.Common.{Cpu, Err, HavePrograms, IfOk, IsPlaceOf, IsTrue, Library, List, None, Objects, Ok, Option, Program, Result, Runs, Settles}
 use Rattle.zl_calls.proofs.Common.{Some, Stands, World, after_locals, ap, arith, false≢true, get, get_or, is_process, is_ready, is_ready_in, is_some, length}
-use Rattle.zl_calls.proofs.Common.{map, on_process, option_map, process_entry, process_value, refl, replicate, same_Some, set, slice_get}
-use Rattle.zl_calls.proofs.Common.{slice_get-get_or, slice_get_within, state_value, step_programs, step_sound, subst, sym, true, wakes, world_blocked, ℕ, ◌<◌}
-use Rattle.zl_calls.proofs.Common.{◌∙◌, ◌≡◌, ◌≤◌}
-use Rattle.zl_code.proofs.Common.{IsSound as IsSoundWorld}
+use Rattle.zl_calls.proofs.Common.{map, on_process, option_map, process_entry, process_value, refl, replicate, same_Some, set, slice_get, slice_get-get_or}
+use Rattle.zl_calls.proofs.Common.{slice_get_within, state_value, step_programs, step_sound, subst, sym, true, wakes, world_blocked, ℕ, ◌<◌, ◌∙◌, ◌≡◌, ◌≤◌}
+use Rattle.zl_code.proofs.Common.{IsSound}
 use Rattle.zl_code.specs.declared.history.TraceItem.TheVariants as item
 use Rattle.zl_calls.specs.declared.process.Process.{Process}
 use Rattle.zl_calls.proofs.step.LocalMoves.{stands, moved_awake, moved_rests, moved_world}
@@ -72,8 +71,8 @@ module _ {ps : List Process} {r : Objects} {blocked : List ℕ} {pid place : ℕ
     advances = subst (Runs lib before (replicate n (item.Run pid 1))) (sym (moved_world turn p2 cpu))
         (locals_run lib before pid (process_value p) (stands turn) (ready turn) g runs at_rest awake n p2.cpu follows)
 
-    pub advanced_sound : IsSoundWorld (world_blocked (set ps place p2) r blocked)
-    advanced_sound = along lib IsSoundWorld (λ w k x w2 s step. step_sound lib w k x w2 s step) before (replicate n (item.Run pid 1))
+    pub advanced_sound : IsSound (world_blocked (set ps place p2) r blocked)
+    advanced_sound = along lib IsSound (λ w k x w2 s step. step_sound lib w k x w2 s step) before (replicate n (item.Run pid 1))
         (world_blocked (set ps place p2) r blocked) turn.sound advances
 
     pub advanced_programs : HavePrograms lib before → HavePrograms lib (world_blocked (set ps place p2) r blocked)

@@ -1,14 +1,14 @@
 -- Behind a step that ended processes each registered wait is left: those of the ended have ended with their handles.
-use Rattle.zl_calls.proofs.Common.{Acts as ActsBy, All-contains, All-contains_itself, AreKnown, CallActs, CallName, CalledAmong, Contains, Ends, EndsBy, Entry}
-use Rattle.zl_calls.proofs.Common.{Err, IsSoundWait, IsTrue, Library, List, None, NotesNext, Objects, Ok, Option, Outcome, Parts, Request, Result, Site, Some}
-use Rattle.zl_calls.proofs.Common.{Status, Taken, TaskKillDoes, Verdict, action_of, acts, and_from, and_parts, ap, asks_again, cases_Bool, entry_at, eqb-true}
-use Rattle.zl_calls.proofs.Common.{false≢true, get, handles_in, has_handle, has_key, has_seen, inl, inr, is_end, is_left, is_made_by_handle, kills}
+use Rattle.zl_calls.proofs.Common.{ActsHere, All-contains, All-contains_itself, AreKnown, CallActs, CallName, CalledAmong, Contains, Ends, EndsBy, Entry, Err}
+use Rattle.zl_calls.proofs.Common.{IsSoundWait, IsTrue, Library, List, None, NotesNext, Objects, Ok, Option, Outcome, Parts, Request, Result, Site, Some}
+use Rattle.zl_calls.proofs.Common.{Status, Taken, TaskKillDoes, Verdict, action_asked, acts, and_from, and_parts, ap, asks_again, cases_Bool, entry_at}
+use Rattle.zl_calls.proofs.Common.{eqb-true, false≢true, get, handles_in, has_handle, has_key, has_seen, inl, inr, is_end, is_left, is_made_by_handle, kills}
 use Rattle.zl_calls.proofs.Common.{kills_itself, map, name_of, none-some, parts, process_entry, process_value, refl, same_Some, set, site, slice_get}
 use Rattle.zl_calls.proofs.Common.{slice_index_or, slice_set, starts, subst, sym, task_kill, true, world_blocked, world_value, ℕ, ℤ, ⊤, ◌&&◌, ◌==◌, ◌∙◌, ◌≡◌}
-use Rattle.zl_rights.specs.World.{Wait as WaitValue}
+use Rattle.zl_rights.specs.World.{Wait}
 use Rattle.zl_code.proofs.Common.{Process as ProcessValue}
 use Rattle.zl_code.specs.declared.history.TraceItem.TheVariants as item
-use Rattle.zl_calls.specs.Reaching.{creates, policed, reaches}
+use Rattle.zl_calls.specs.Reaching.{creates_process, policed, reaches}
 use Rattle.zl_calls.specs.declared.policy.Verdict.TheVariants as verdict
 use Rattle.zl_calls.specs.declared.process.Process.{Process}
 use Rattle.zl_calls.proofs.processes.Departed.{handles_left, left_all}
@@ -21,14 +21,14 @@ use Rattle.zl_calls.proofs.waits.Staying.{AreLeft, written_keeps}
 
 -- the handle is there by which each of the waits was made
 abbrev HaveHandles : List Process → Objects → Type 0
-HaveHandles ps r = (x : WaitValue) → Contains r.waits x → IsTrue (has_handle (get (map process_entry ps) x.pid) x.value)
+HaveHandles ps r = (x : Wait) → Contains r.waits x → IsTrue (has_handle (get (map process_entry ps) x.pid) x.value)
 
 -- so each is left, as processes go that were never started
 have_left : (ps : List Process) (r : Objects) → AreThere r → HaveHandles ps r → AreLeft (left_all ps r) r r.waits
 unfolding is_made_by_handle
 have_left ps r present have i d inside = one (slice_index_or r.waits i d) (All-contains_itself r.waits i d inside) (present i d inside)
   where
-    one : (x : WaitValue) → Contains r.waits x → IsTrue (has_key r.objects x.object && has_key r.objects x.port)
+    one : (x : Wait) → Contains r.waits x → IsTrue (has_key r.objects x.object && has_key r.objects x.port)
         → IsTrue (is_left (world_value (left_all ps r) r) x)
     one x listed both =
         let parts = and_parts (has_key r.objects x.object) (has_key r.objects x.port) both in
@@ -36,7 +36,7 @@ have_left ps r present have i d inside = one (slice_index_or r.waits i d) (All-c
         (and_from _ _ (has_seen r.objects x.object ∙ parts.0) (has_seen r.objects x.port ∙ parts.1))
 
 -- the process is there that made the wait, and the handle by which it was made, which names the object
-record IsHeld (ps : List Process) (x : WaitValue) : Type 0 where
+record IsHeld (ps : List Process) (x : Wait) : Type 0 where
   process : ProcessValue
   at : get (map process_entry ps) x.pid ≡ Some process
   e : Entry
@@ -44,7 +44,7 @@ record IsHeld (ps : List Process) (x : WaitValue) : Type 0 where
   names : e.koid ≡ x.object
 
 module _ {ps : List Process} {r : Objects} {blocked : List ℕ} {pid place : ℕ} {p : Process} (turn : AtTurn ps r blocked pid place p) where
-  held : (x : WaitValue) → Contains r.waits x → IsHeld ps x
+  held : (x : Wait) → Contains r.waits x → IsHeld ps x
   unfolding get
   held x listed = by_process (get (map process_entry ps) x.pid) refl made.1
     where
@@ -97,7 +97,7 @@ module _ {ps : List Process} {r : Objects} {blocked : List ℕ} {pid place : ℕ
     killed task between (Err s) does x listed = subst (λ (all : Parts). HaveHandles all.processes all.objects) (sym does.refused) before x listed
 
     exits_so : (request : Request) (consumed destinations : List ℕ) (p2 : Process) → ends_processes (name_of request) o ≡ true
-        → ActsBy (action_of p.pid request) (site request consumed destinations) p r o p2 all2.objects → is_end o ≡ true
+        → ActsHere (action_asked p.pid request) (site request consumed destinations) p r o p2 all2.objects → is_end o ≡ true
     exits_so (task_kill task) c d p2 ends does = absurd does
     exits_so request c d p2 ends does = ends
 
@@ -109,7 +109,7 @@ module _ {ps : List Process} {r : Objects} {blocked : List ℕ} {pid place : ℕ
         by_verdict verdict.Denied denied = told_have ps r p p2 (here ps pid place p turn.found turn.read) (ap (λ (q : Process). q.pid) denied.replied)
             denied.table alone.processes denied.objects before
         by_verdict verdict.Killed exit = over _ p2 alone.processes exit.over
-    ended_left name s named ends (reaches none (creates job program is does)) =
+    ended_left name s named ends (reaches none (creates_process job program is does)) =
         absurd (false≢true (sym (ap (λ n. ends_processes n o) (sym named ∙ ap name_of is) ∙ ap is_end does.ends) ∙ ends))
     ended_left name s named ends (reaches none (starts process h word is does)) =
         absurd (false≢true (sym (ap (λ n. ends_processes n o) (sym named ∙ ap name_of is) ∙ ap is_end does.ends) ∙ ends))
@@ -118,7 +118,7 @@ module _ {ps : List Process} {r : Objects} {blocked : List ℕ} {pid place : ℕ
         (killed task a.between a.answer a.does)
     ended_left name s named ends (reaches none (kills_itself task is e)) = have (killed task all2 (Ok tt) e.does)
     ended_left name s named ends (acts p2 none alone does) =
-        let exit = acted_exits (action_of p.pid s.request) s p p2 r all2.objects o does
+        let exit = acted_exits (action_asked p.pid s.request) s p p2 r all2.objects o does
         (exits_so s.request s.consumed s.destinations p2 (ap (λ n. ends_processes n o) named ∙ ends) does) in
         over exit.0 p2 alone.processes exit.1.over
 

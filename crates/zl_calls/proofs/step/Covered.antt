@@ -2,7 +2,7 @@
 use Rattle.zl_calls.proofs.Common.{Bool, IsAbleIn, IsAsTyped, IsCovered, IsVerified, Library, List, Objects, Program, Runs, Some, TakesStep, TraceItem, World}
 use Rattle.zl_calls.proofs.Common.{[], able_of, after_locals, ap, get, is_ready, map, pid_of, process_entry, process_value, program_in, replicate, runs, set}
 use Rattle.zl_calls.proofs.Common.{slice_get, state_value, step_covered, step_sound, subst, sym, true, wakes, world_blocked, ℕ, ◌∙◌, ◌∷◌, ◌≡◌}
-use Rattle.zl_code.proofs.Common.{IsSound as IsSoundWorld}
+use Rattle.zl_code.proofs.Common.{IsSound}
 use Rattle.zl_code.specs.declared.history.TraceItem.TheVariants as item
 use Rattle.zl_calls.specs.declared.process.Process.{Process}
 use Rattle.zl_calls.proofs.step.Advancing.{advances}
@@ -11,14 +11,14 @@ use Rattle.zl_calls.proofs.step.StepItems.{machine_value}
 
 module _ (lib : Library) (v : IsVerified lib) where
   -- what each step keeps, a run keeps
-  runs_covered : (w : World) (xs : List TraceItem) (w2 : World) → IsSoundWorld w → IsCovered lib w → Runs lib w xs w2 → IsCovered lib w2
+  runs_covered : (w : World) (xs : List TraceItem) (w2 : World) → IsSound w → IsCovered lib w → Runs lib w xs w2 → IsCovered lib w2
   runs_covered w [] w2 sound c e = subst (IsCovered lib) (sym e) c
   runs_covered w (x ∷ xs) w2 sound c (mid, step, rest) =
       runs_covered mid xs w2 (step_sound lib w (pid_of x) x mid sound step) (step_covered lib v w x mid sound c step) rest
 
   pub stepped_covered : (ps ps2 : List Process) (r r2 : Objects) (blocked blocked2 : List ℕ) (pid : ℕ) (x : TraceItem)
       → TakesStep (machine_value lib ps r blocked) pid (machine_value lib ps2 r2 blocked2) x
-      → IsSoundWorld (world_blocked ps r blocked) → IsCovered lib (world_blocked ps r blocked) → IsCovered lib (world_blocked ps2 r2 blocked2)
+      → IsSound (world_blocked ps r blocked) → IsCovered lib (world_blocked ps r blocked) → IsCovered lib (world_blocked ps2 r2 blocked2)
   stepped_covered ps ps2 r r2 blocked blocked2 pid x takes sound c =
       step_covered lib v (world_blocked ps r blocked) x (world_blocked ps2 r2 blocked2) sound c takes.steps.step
 
@@ -33,7 +33,7 @@ module _ (lib : Library) (v : IsVerified lib) where
   -- ---- a Cpu by itself
 
   -- the Cpu of a process that is ready is as a typing of its program says, if that is checked
-  pub able_there : (ps : List Process) (r : Objects) (blocked : List ℕ) (pid : ℕ) (p : Process) (g : Program) → IsSoundWorld (world_blocked ps r blocked)
+  pub able_there : (ps : List Process) (r : Objects) (blocked : List ℕ) (pid : ℕ) (p : Process) (g : Program) → IsSound (world_blocked ps r blocked)
       → IsCovered lib (world_blocked ps r blocked) → get (map process_entry ps) pid ≡ Some (process_value p) → is_ready (state_value p.state) ≡ true
       → slice_get lib p.program ≡ Some g → IsAbleIn g p.cpu
   able_there ps r blocked pid p g sound c there ready at checked =

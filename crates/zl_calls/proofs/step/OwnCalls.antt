@@ -1,13 +1,11 @@
 -- A call whose choice is the lab's own, beside registered waits and blocked processes.
-use Rattle.zl_calls.proofs.Common.{ActsAndSettles, AreBlocked, AtCall, CallName, Library, List, Objects, Outcome, Ready, Settles, Some}
-use Rattle.zl_calls.proofs.Common.{Wait}
-use Rattle.zl_calls.proofs.Common.{World, false, filter, get, is_blocking, is_process, map, next_for, process_entry, refl}
-use Rattle.zl_calls.proofs.Common.{subst, sym}
-use Rattle.zl_calls.proofs.Common.{waits_by, with_waiters, world_blocked, world_left, world_value, ℕ, ◌∙◌, ◌≡◌}
-use Rattle.zl_code.proofs.Common.{IsSound as IsSoundWorld, Process as ProcessValue}
+use Rattle.zl_calls.proofs.Common.{ActsAndSettles, AreBlocked, AtCall, CallName, Library, List, Objects, Outcome, Ready, Settles, Some, Wait, World, false}
+use Rattle.zl_calls.proofs.Common.{filter, get, is_blocking, is_process, map, next_for, process_entry, refl, subst, sym, waits_by, with_waiters, world_blocked}
+use Rattle.zl_calls.proofs.Common.{world_left, world_value, ℕ, ◌∙◌, ◌≡◌}
+use Rattle.zl_code.proofs.Common.{IsSound, Process as ProcessValue}
 use Rattle.zl_code.specs.Calls.{CallBy}
-use Rattle.zl_calls.proofs.Common.{Calls, KeepSleepers, Option, Site, refusal}
-use Rattle.zl_code.specs.Refusals.{refusal as policed_refusal}
+use Rattle.zl_calls.proofs.Common.{KeepSleepers, Option, PlainCalls, Site, plain_refusal}
+use Rattle.zl_code.specs.Refusals.{refusal}
 use Rattle.zl_code.proofs.StepsBeside.{next_looks}
 use Rattle.zl_code.proofs.StepsWaiting.{is_left as is_left_at_port, settles_waiting}
 use Rattle.zl_code.proofs.Waiters.{blocked_after, call_among, waits_after}
@@ -22,7 +20,7 @@ use Rattle.zl_calls.proofs.step.OwnDone.{call_own}
 use Rattle.zl_calls.proofs.waits.LeftWaits.{ListsLeft, left_same}
 use Rattle.zl_calls.proofs.waking.BlockedLists.{same_blocked}
 
-module _ (lib : Library) (before after : List Process) (r r2 : Objects) (blocked : List ℕ) (pid : ℕ) (sound : IsSoundWorld (world_blocked before r blocked))
+module _ (lib : Library) (before after : List Process) (r r2 : Objects) (blocked : List ℕ) (pid : ℕ) (sound : IsSound (world_blocked before r blocked))
     (q : ProcessValue) (there : get (map process_entry before) pid ≡ Some q) (ready : q.state ≡ Ready) where
   abbrev W : World
   W = world_blocked before r blocked
@@ -58,7 +56,7 @@ module _ (lib : Library) (before after : List Process) (r r2 : Objects) (blocked
 
   -- one that looks at waits, and with which nothing goes
   pub look_beside : (call : CallName) (at : Site) (ends : Outcome) → next_for lib q ≡ AtCall call at
-      → policed_refusal lib W pid at.request ≡ refusal lib W pid at.request → (calls : Calls lib W pid at ends (world_blocked after r2 blocked))
+      → refusal lib W pid at.request ≡ plain_refusal lib W pid at.request → (calls : PlainCalls lib W pid at ends (world_blocked after r2 blocked))
       → IsOwn before after r pid at.request calls.0 → KeepSleepers r r2 → Settles (world_value after r2) sw → tells_want (item.Call pid call ends) ≡ false
       → IsOwnDone lib (own_beside before r blocked) pid (AtCall call at) (item.Call pid call ends) (world_left (left_all after r2) r2 blocked) after
   look_beside call at ends next free calls own asleep settled plain =

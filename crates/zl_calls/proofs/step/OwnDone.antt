@@ -1,12 +1,10 @@
 -- What a process did is the lab's own, where its choice is.
-use Rattle.zl_calls.proofs.Common.{AtCall, Bool, CallName, IsStuck, Library, List, Moves, None, Objects, Option, Outcome, Request, Settles, Site, Some}
-use Rattle.zl_calls.proofs.Common.{Status, TraceItem, World, ap, close, false, false≢true, get, map, process_entry, process_value, refl}
-use Rattle.zl_calls.proofs.Common.{sym, true}
-use Rattle.zl_calls.proofs.Common.{ℕ, ◌∙◌, ◌≡◌}
+use Rattle.zl_calls.proofs.Common.{AtCall, Bool, CallName, IsStuck, Library, List, Moves, None, Objects, Option, Outcome, Request, Settles, Site, Some, Status}
+use Rattle.zl_calls.proofs.Common.{TraceItem, World, ap, close, false, false≢true, get, map, process_entry, process_value, refl, sym, true, ℕ, ◌∙◌, ◌≡◌}
 use Rattle.zl_code.proofs.Common.{Acts, Choice, Next, Refused, Values, Wants, after_ok, after_refusal, ok_outcome}
 use Rattle.zl_code.specs.CallTable.{new_handles}
 use Rattle.zl_code.specs.Calls.{CallBy, grows, wanted}
-use Rattle.zl_code.specs.Refusals.{refusal as policed_refusal}
+use Rattle.zl_code.specs.Refusals.{refusal}
 use Rattle.zl_code.specs.Own.{OwnWorld, entered_free, free_at, left_free, own_values}
 use Rattle.zl_code.specs.OwnSteps.{own_act, own_call}
 use Rattle.zl_code.specs.declared.history.Outcome.TheVariants as outcome
@@ -19,7 +17,7 @@ use Rattle.zl_code.specs.OwnHistory.{is_want, tells_want}
 use Rattle.zl_calls.specs.World.{free_entry}
 use Rattle.zl_calls.specs.declared.process.Process.{Process}
 use Rattle.zl_calls.proofs.calls.Owned.{IsOwn, own_in}
-use Rattle.zl_calls.proofs.Common.{IsActed, call_in, next_for, none-some, same_Some, subst}
+use Rattle.zl_calls.proofs.Common.{IsActed, call_here, next_for, none-some, same_Some, subst}
 use Rattle.zl_calls.proofs.processes.Departed.{left_all}
 use Rattle.zl_calls.proofs.processes.Freed.{left_free_by}
 use Rattle.zl_code.proofs.Common.{Process as ProcessValue}
@@ -70,18 +68,18 @@ module _ (lib : Library) (before after : List Process) (r : Objects) (blocked : 
   by_choice call s ends acted w2 settles plain _ _ by own = absurd by
 
   pub call_own : (call : CallName) (s : Site) (ends : Outcome) (acted w2 : World) → (choice : Choice)
-      → CallBy lib o.world pid s choice (policed_refusal lib o.world pid s.request) ends acted → IsOwn before after r pid s.request choice
+      → CallBy lib o.world pid s choice (refusal lib o.world pid s.request) ends acted → IsOwn before after r pid s.request choice
       → Settles acted w2 → tells_want (item.Call pid call ends) ≡ false → IsOwnDone lib o pid (AtCall call s) (item.Call pid call ends) w2 after
   call_own call s ends acted w2 choice by own settles plain =
-      let done = by_choice call s ends acted w2 settles plain choice (policed_refusal lib o.world pid s.request) by own in
+      let done = by_choice call s ends acted w2 settles plain choice (refusal lib o.world pid s.request) by own in
       record { world = done.0; item = done.1; free = done.2 }
 
   -- one that blocks, whatever it would give to new handles
   pub blocked_own : (call : CallName) (s : Site) (acted w2 : World) → (choice : Choice)
-      → CallBy lib o.world pid s choice (policed_refusal lib o.world pid s.request) outcome.Blocked acted → FreeBy after (left_free o pid s.request)
+      → CallBy lib o.world pid s choice (refusal lib o.world pid s.request) outcome.Blocked acted → FreeBy after (left_free o pid s.request)
       → FreeBy after (entered_free o pid s.request) → Settles acted w2 → IsOwnDone lib o pid (AtCall call s) (item.Call pid call outcome.Blocked) w2 after
   blocked_own call s acted w2 choice by left entered settles =
-      let done = by_ends choice (policed_refusal lib o.world pid s.request) by in
+      let done = by_ends choice (refusal lib o.world pid s.request) by in
       record { world = own_settled acted _ w2 settles done.0; item = done.1; free = done.2 }
     where
       blocked_answers : (want : Status) → outcome.Blocked ≡ outcome.Answered want → ⊥
@@ -100,7 +98,7 @@ module _ (lib : Library) (before after : List Process) (r : Objects) (blocked : 
       by_ends _ _ by = absurd by
 
   -- what isn't a call
-  pub plain_own : (n : Next) (x : TraceItem) (acted w2 : World) → call_in n ≡ None → Acts lib o.world pid n x acted → Settles acted w2
+  pub plain_own : (n : Next) (x : TraceItem) (acted w2 : World) → call_here n ≡ None → Acts lib o.world pid n x acted → Settles acted w2
       → FreeBy after (free_at (map free_entry before)) → IsOwnDone lib o pid n x w2 after
   plain_own (Moves c) x acted w2 none acts settles by = record { world = own_settled acted _ w2 settles acts.1; item = acts.0; free = by }
   plain_own IsStuck x acted w2 none acts settles by = record { world = own_settled acted _ w2 settles acts.1; item = acts.0; free = by }
@@ -108,7 +106,7 @@ module _ (lib : Library) (before after : List Process) (r : Objects) (blocked : 
 
   -- what is refused
   pub refused_of : (call : CallName) (s : Site) (x : TraceItem) (w2 : World) → IsActed lib o.world pid x w2 → (q : ProcessValue)
-      → get (map process_entry before) pid ≡ Some q → next_for lib q ≡ AtCall call s → (e : Outcome) → policed_refusal lib o.world pid s.request ≡ Some e
+      → get (map process_entry before) pid ≡ Some q → next_for lib q ≡ AtCall call s → (e : Outcome) → refusal lib o.world pid s.request ≡ Some e
       → FreeBy after (left_free o pid s.request) → IsOwnDone lib o pid (AtCall call s) x w2 after
   refused_of call s x w2 did q at next e refused free = by_acts
       (subst (λ (n : Next). Acts lib o.world pid n x did.acted) (ap (next_for lib) (same_Some did.process q (sym did.is_there ∙ at)) ∙ next) did.acts)
@@ -127,7 +125,7 @@ module _ (lib : Library) (before after : List Process) (r : Objects) (blocked : 
           (subst (λ (f : Option Outcome). CallBy lib o.world pid s calls.0 f ends did.acted) refused calls.1)
 
   pub plain_of : (x : TraceItem) (w2 : World) → IsActed lib o.world pid x w2 → (q : ProcessValue) → get (map process_entry before) pid ≡ Some q
-      → call_in (next_for lib q) ≡ None → FreeBy after (free_at (map free_entry before)) → IsOwnDone lib o pid (next_for lib q) x w2 after
+      → call_here (next_for lib q) ≡ None → FreeBy after (free_at (map free_entry before)) → IsOwnDone lib o pid (next_for lib q) x w2 after
   plain_of x w2 did q at none by =
       plain_own (next_for lib q) x did.acted w2 none
       (subst (λ (y : ProcessValue). Acts lib o.world pid (next_for lib y) x did.acted)

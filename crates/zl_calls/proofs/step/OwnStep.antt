@@ -1,10 +1,9 @@
 -- The step that the lab itself does, once processes woke.
 use Rattle.zl_calls.proofs.Common.{Bool, DoesNext, IsTrue, Library, List, Map, None, Objects, Option, Some, TraceItem, [], ap, cases_Bool, eq-eqb, eqb-true}
-use Rattle.zl_calls.proofs.Common.{false}
-use Rattle.zl_calls.proofs.Common.{get, if◌then◌else◌, inl, inr, is_sorted, length, length-map, lives, map, nat_cmp, none-some, option_map, process_at}
-use Rattle.zl_calls.proofs.Common.{process_entry, process_value}
-use Rattle.zl_calls.proofs.Common.{refl, same_Some, sorted_parts, state_value, sym, wakes, world_blocked, ℕ, ◌==◌, ◌∙◌, ◌∷◌, ◌≡◌, ◌⊎◌}
-use Rattle.zl_code.proofs.Common.{World as WorldValue, next_for}
+use Rattle.zl_calls.proofs.Common.{false, get, if◌then◌else◌, inl, inr, is_sorted, length, length-map, lives, map, nat_cmp, none-some, option_map, process_at}
+use Rattle.zl_calls.proofs.Common.{process_entry, process_value, refl, same_Some, sorted_parts, state_value, sym, wakes, world_blocked, ℕ, ◌==◌, ◌∙◌, ◌∷◌, ◌≡◌}
+use Rattle.zl_calls.proofs.Common.{◌⊎◌}
+use Rattle.zl_code.proofs.Common.{World, next_for}
 use Rattle.zl_code.specs.Own.{OwnWorld, free_in}
 use Rattle.zl_code.specs.OwnSteps.{own_act, own_behind, own_ending}
 use Rattle.zl_rights.specs.Values.{Free, new_free}
@@ -64,7 +63,7 @@ free_awake ps qs sorted same f by =
     ∙ (sym (given_is f ps) ∙ (sym (free_is ps sorted f by) ∙ sym (by_held (λ h. (h.0, if h.1.0 then h.1.1 else new_free)) ps qs same))))
 
 module _ (lib : Library) (ps : List Process) (r : Objects) (blocked : List ℕ) (pid : ℕ) (x : TraceItem) where
-  pub own_stepped : (ps1 ps2 : List Process) (r2 : Objects) (blocked2 : List ℕ) (left : WorldValue) → IsTrue (is_sorted nat_cmp (map process_entry ps1))
+  pub own_stepped : (ps1 ps2 : List Process) (r2 : Objects) (blocked2 : List ℕ) (left : World) → IsTrue (is_sorted nat_cmp (map process_entry ps1))
       → map held ps2 ≡ map held ps1 → DoesNext lib (world_blocked ps r blocked) pid x left → world_blocked ps2 r2 blocked2 ≡ wakes left
       → DoesOwn lib (own_beside ps r blocked) pid x left ps1 → StepsOwn lib (own_beside ps r blocked) pid x (own_beside ps2 r2 blocked2)
   own_stepped ps1 ps2 r2 blocked2 left sorted same does awake own plain =
@@ -77,5 +76,5 @@ module _ (lib : Library) (ps : List Process) (r : Objects) (blocked : List ℕ) 
           let act = own_act lib (own_beside ps r blocked) pid (next_for lib does.acted.process) in
           let ends : own_ending act.world ≡ world_blocked ps2 r2 blocked2 = sym (awake ∙ ap wakes done.world) in
           let free : free_in (own_ending act.world) act.free ≡ map free_entry ps2 =
-          ap (λ (w : WorldValue). free_in w act.free) ends ∙ free_awake ps1 ps2 sorted same act.free done.free in
+          ap (λ (w : World). free_in w act.free) ends ∙ free_awake ps1 ps2 sorted same act.free done.free in
           λ i. Some (record { world = ends i; free = free i }, sym done.item i)

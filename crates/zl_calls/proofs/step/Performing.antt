@@ -6,7 +6,7 @@ use Rattle.zl_calls.proofs.Common.{is_blocking, is_process, is_ready, is_some, l
 use Rattle.zl_calls.proofs.Common.{parts, pid_of, position, process_entry, process_value, refl, set, slice_get, slice_get-get_or, state_passes, state_value}
 use Rattle.zl_calls.proofs.Common.{subst, sym, tells_blocking, then_blocked, true, waits_by, world_blocked, world_left, world_value, ℕ, ◌<◌, ◌==◌, ◌∙◌, ◌≡◌}
 use Rattle.zl_calls.proofs.Common.{◌⊎◌}
-use Rattle.zl_code.proofs.Common.{Object as ObjectValue, Process as ProcessValue}
+use Rattle.zl_code.proofs.Common.{Object, Process as ProcessValue}
 use Rattle.zl_code.specs.declared.history.Outcome.TheVariants as outcome
 use Rattle.zl_code.specs.declared.history.TraceItem.TheVariants as item
 use Rattle.zl_calls.specs.declared.process.State.{State}
@@ -17,9 +17,9 @@ use Rattle.zl_calls.proofs.waking.BlockedLists.{still_blocked, same_list}
 use Rattle.zl_calls.proofs.waits.EndedWaits.{acted_over, ended_none, over_none}
 use Rattle.zl_calls.proofs.waits.LeftWaits.{ListsLeft, left_beside, left_looking, lists_left}
 use Rattle.zl_calls.proofs.waits.WaitsByCall.{acted_lists}
-use Rattle.zl_code.specs.Sound.{IsSound as IsSoundWorld}
+use Rattle.zl_code.specs.Sound.{IsSound}
 use Rattle.zl_calls.proofs.calls.DoneCalls.{IsDone}
-use Rattle.zl_calls.proofs.Common.{call_in, same_Some}
+use Rattle.zl_calls.proofs.Common.{call_here, same_Some}
 use Rattle.zl_calls.proofs.processes.Freed.{free_written}
 use Rattle.zl_calls.specs.World.{free_entry}
 use Rattle.zl_code.specs.Own.{free_at}
@@ -54,11 +54,11 @@ abbrev pub HasLeft : Library → List Process → List Process → Objects → O
 HasLeft lib before after r r2 blocked blocked2 pid x = HasActed lib before (left_all after r2) r r2 blocked blocked2 pid x
 
 -- each living process has its object
-pub object_there : (ps : List Process) (r : Objects) (blocked : List ℕ) → IsSoundWorld (world_blocked ps r blocked) → (k : ℕ)
+pub object_there : (ps : List Process) (r : Objects) (blocked : List ℕ) → IsSound (world_blocked ps r blocked) → (k : ℕ)
     → IsTrue (state_passes lives (get (map process_entry ps) k)) → IsTrue (has_key r.objects k)
 object_there ps r blocked sound k living = by_process (get (map process_entry ps) k) refl living
   where
-    by_object : (o : Option ObjectValue) (b : Body) → body_in o ≡ Some b → IsTrue (is_some o)
+    by_object : (o : Option Object) (b : Body) → body_in o ≡ Some b → IsTrue (is_some o)
     by_object None b there = absurd (none-some b there)
     by_object (Some o) b there = refl
 
@@ -91,14 +91,14 @@ module _ (ps : List Process) (pid place : ℕ) (p : Process) (found : Some place
 pub record AtTurn (ps : List Process) (r : Objects) (blocked : List ℕ) (pid place : ℕ) (p : Process) : Type 0 where
   pub consistent : IsConsistent ps r
   pub are : AreBlocked ps blocked
-  pub sound : IsSoundWorld (world_blocked ps r blocked)
+  pub sound : IsSound (world_blocked ps r blocked)
   pub found : Some place ≡ position (λ q. q.pid == pid) ps
   pub read : p ≡ get_or ps place p
   pub ready : is_ready (state_value p.state) ≡ true
 
 -- the same, by its parts
 pub turn_at : (ps : List Process) (r : Objects) (blocked : List ℕ) (pid place : ℕ) (p : Process) → IsConsistent ps r → AreBlocked ps blocked
-    → IsSoundWorld (world_blocked ps r blocked) → Some place ≡ position (λ q. q.pid == pid) ps → p ≡ get_or ps place p → is_ready (state_value p.state) ≡ true
+    → IsSound (world_blocked ps r blocked) → Some place ≡ position (λ q. q.pid == pid) ps → p ≡ get_or ps place p → is_ready (state_value p.state) ≡ true
     → AtTurn ps r blocked pid place p
 turn_at ps r blocked pid place p consistent are sound found read ready =
     record { consistent = consistent; are = are; sound = sound; found = found; read = read; ready = ready }
@@ -264,7 +264,7 @@ module _ {ps : List Process} {r : Objects} {blocked : List ℕ} {pid place : ℕ
           list = still_blocked write unblocked (ap (λ (q : Process). is_blocked (state_value q.state)) cpu ∙ unblocked) blocked turn.are;
           acts = record { pid_is = refl; acted = did };
           own = λ q at plain. plain_of lib ps (set ps place p2) r blocked pid (item.Run pid 1) _ did q at
-              (ap (λ (y : ProcessValue). call_in (next_for lib y)) (same_Some q (process_value p) (sym at ∙ there)) ∙ ap call_in next)
+              (ap (λ (y : ProcessValue). call_here (next_for lib y)) (same_Some q (process_value p) (sym at ∙ there)) ∙ ap call_here next)
               (free_written write (free_at (map free_entry ps))
               (λ goes. ap (λ (x : Process). x.table.free) cpu ∙ rw (write.free_there, ready) refl) (λ k apart. refl));
         }
@@ -283,5 +283,5 @@ module _ {ps : List Process} {r : Objects} {blocked : List ℕ} {pid place : ℕ
         (ap next_looks next)
         (ends_keeps lib r2 turn.consistent write STUCK ends ready) (rw (← key) (stuck_steps lib r2 turn.consistent write STUCK ends ready refl next))
         (rw next (lists_left (left_all (set ps place p2) r2) r r2 r.waits r.waits_made (over_none write r2 ends.no_handle) ends.waits.keeps.listed))
-        (λ did no. plain_of lib ps (set ps place p2) r blocked pid (item.Stuck pid) _ did (process_value p) there (ap call_in next)
+        (λ did no. plain_of lib ps (set ps place p2) r blocked pid (item.Stuck pid) _ did (process_value p) there (ap call_here next)
         (over_free lib r2 turn.consistent write STUCK ends ready (free_at (map free_entry ps)) (λ k apart. refl)))

@@ -1,8 +1,8 @@
 -- Where a process stands in the list, and what stands next for it.
-use Rattle.zl_calls.proofs.Common.{CallInstr, CallsNext, IsSome, Library, List, None, Option, Program, Site, Some}
-use Rattle.zl_calls.proofs.Common.{ap, arith, call_at, call_in, call_row, calls_at, false, false≢true, get_or, get_or_from_slice_get}
-use Rattle.zl_calls.proofs.Common.{has_its_memory, is_some, length, map, next_for, process_entry, process_value, refl, site_of, slice_get}
-use Rattle.zl_calls.proofs.Common.{slice_get-map, slice_get_read, stands_next, subst, sym, true, ℕ, ◌<◌, ◌^◌, ◌∙◌, ◌≡◌, ◌≢◌}
+use Rattle.zl_calls.proofs.Common.{CallInstr, CallsNext, IsSome, Library, List, None, Option, Program, Site, Some, ap, arith, call_at, call_here, call_row}
+use Rattle.zl_calls.proofs.Common.{calls_at, false, false≢true, get_or, get_or_from_slice_get, has_its_memory, is_some, length, map, next_for, process_entry}
+use Rattle.zl_calls.proofs.Common.{process_value, refl, site_of, slice_get, slice_get-map, slice_get_read, stands_next, subst, sym, true, ℕ, ◌<◌, ◌^◌, ◌∙◌, ◌≡◌}
+use Rattle.zl_calls.proofs.Common.{◌≢◌}
 use Rattle.zl_code.proofs.Common.{Process as ProcessValue}
 use Rattle.zl_interp.proofs.Standing.{comes, no_call}
 use Rattle.zl_verify.proofs.Sites.{has_site}
@@ -22,15 +22,15 @@ module _ (lib : Library) (p : ProcessValue) (g : Program) (runs : slice_get lib 
   calls_next x there = rw runs (comes g.image p.cpu x there)
 
   -- and where none does, none stands next
-  pub no_call_next : call_at g.image p.cpu.counter ≡ None → call_in (next_for lib p) ≡ None
+  pub no_call_next : call_at g.image p.cpu.counter ≡ None → call_here (next_for lib p) ≡ None
   no_call_next none = rw runs (no_call g.image p.cpu none)
 
 -- the call stands next for the process, if it has a site
 module _ (lib : Library) (p : ProcessValue) (x : CallInstr) (next : next_for lib p ≡ calls_at x.name (site_of x p.cpu)) where
-  pub none_without_site : has_its_memory (call_row x.name).ending x p.cpu ≡ false → call_in (next_for lib p) ≡ None
-  none_without_site none = ap call_in next ∙ by (site_of x p.cpu) (has_site x p.cpu ∙ none)
+  pub none_without_site : has_its_memory (call_row x.name).ending x p.cpu ≡ false → call_here (next_for lib p) ≡ None
+  none_without_site none = ap call_here next ∙ by (site_of x p.cpu) (has_site x p.cpu ∙ none)
     where
-      by : (s : Option Site) → is_some s ≡ false → call_in (calls_at x.name s) ≡ None
+      by : (s : Option Site) → is_some s ≡ false → call_here (calls_at x.name s) ≡ None
       by None h = refl
       by (Some s) h = absurd (false≢true (sym h))
 
@@ -40,7 +40,7 @@ module _ (lib : Library) (ps : List Process) (place : ℕ) (q : Process) (read :
   same : (q2 : Process) → q2 ≡ get_or ps place q2 → q2 ≡ p
   same q2 read2 = read2 ∙ get_or_from_slice_get ps place p q2 at
 
-  pub none_at : (q2 : Process) → q2 ≡ get_or ps place q2 → has_its_memory (call_row x.name).ending x q2.cpu ≡ false → call_in (stands_next lib p) ≡ None
+  pub none_at : (q2 : Process) → q2 ≡ get_or ps place q2 → has_its_memory (call_row x.name).ending x q2.cpu ≡ false → call_here (stands_next lib p) ≡ None
   none_at q2 read2 none =
       none_without_site lib (process_value p) x (subst (λ (r : Process). CallsNext lib r x) (same q read) next)
       (subst (λ (r : Process). has_its_memory (call_row x.name).ending x r.cpu ≡ false) (same q2 read2) none)

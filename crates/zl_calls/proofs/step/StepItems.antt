@@ -1,12 +1,12 @@
 -- What the item of a step tells of the process: which call it did, that it ran, or that it was stuck.
 use Rattle.zl_calls.specs.World.{free_entry}
 use Rattle.zl_calls.proofs.Common.{AtCall, CallInstr, CallName, Cpu, DoesNext, EndsUnheld, HaveLeft, HavePrograms, IfNone, IfSome, IsStuck, IsTrue, Library}
-use Rattle.zl_calls.proofs.Common.{List, Machine, Moves, Next, None, Objects, Option, Outcome, Program, Site, Some, Step, StepsAndWakes}
-use Rattle.zl_calls.proofs.Common.{TakesStep, TraceItem, Woke, ap, asks_again, call_for, call_in, call_of, call_row, calls_at, false, false≢true, fired, fold}
-use Rattle.zl_calls.proofs.Common.{get, instr_at, is_local, is_process, is_ready, is_ready_in, local_effect, map, name_of, next_at, next_for, pid_of}
-use Rattle.zl_calls.proofs.Common.{process_entry, refl, site_of, slice_get, state_passes, step_awake, step_programs, step_sound, subst, sym, takes_memory}
-use Rattle.zl_calls.proofs.Common.{then_blocked, true, wakes, woken, world_blocked, world_left, ℕ, ◌∙◌, ◌≡◌}
-use Rattle.zl_code.proofs.Common.{Acts, World as WorldValue, Process as ProcessValue}
+use Rattle.zl_calls.proofs.Common.{List, Machine, Moves, Next, None, Objects, Option, Outcome, Program, Site, Some, Step, StepsAndWakes, TakesStep, TraceItem}
+use Rattle.zl_calls.proofs.Common.{Woke, ap, asks_again, call_for, call_here, call_of, call_row, calls_at, false, false≢true, fired, fold, get, instr_at}
+use Rattle.zl_calls.proofs.Common.{is_local, is_process, is_ready, is_ready_in, local_effect, map, name_of, next_at, next_for, pid_of, process_entry, refl}
+use Rattle.zl_calls.proofs.Common.{site_of, slice_get, state_passes, step_awake, step_programs, step_sound, subst, sym, takes_memory, then_blocked, true, wakes}
+use Rattle.zl_calls.proofs.Common.{woken, world_blocked, world_left, ℕ, ◌∙◌, ◌≡◌}
+use Rattle.zl_code.proofs.Common.{Acts, World, Process as ProcessValue}
 use Rattle.zl_rights.specs.declared.status.Status.TheVariants as status
 use Rattle.zl_code.specs.declared.history.Outcome.TheVariants as outcome
 use Rattle.zl_code.specs.declared.history.TraceItem.TheVariants as item
@@ -20,8 +20,8 @@ use Rattle.zl_calls.specs.declared.waking.Woke.TheVariants as woke
 
 -- ---- the process that acts, and the item
 
-module _ (lib : Library) (w w2 : WorldValue) (pid at : ℕ) where
-  called : (name : CallName) (o : Outcome) (next : Next) → Acts lib w pid next (item.Call at name o) w2 → call_in next ≡ Some name
+module _ (lib : Library) (w w2 : World) (pid at : ℕ) where
+  called : (name : CallName) (o : Outcome) (next : Next) → Acts lib w pid next (item.Call at name o) w2 → call_here next ≡ Some name
   called name o (Moves c) (is, moved) = cc
   called name o (AtCall call s) (o2, is, calls) = cc
   called name o IsStuck (is, over) = cc
@@ -49,7 +49,7 @@ module _ (c : Cpu) (name : CallName) (s : Site) where
   asked_next (Some g) e = by_instr (instr_at g.image c.counter) e
 
 -- memory is refused only to a call that takes it
-takes_where_wanting : (lib : Library) (w w2 : WorldValue) (pid : ℕ) (q : ProcessValue) (name : CallName) (s : Site) → get w.processes pid ≡ Some q
+takes_where_wanting : (lib : Library) (w w2 : World) (pid : ℕ) (q : ProcessValue) (name : CallName) (s : Site) → get w.processes pid ≡ Some q
     → next_for lib q ≡ AtCall name s → Step lib w pid (item.Call pid name (outcome.Answered status.NoMemory)) w2 → IsTrue (takes_memory name)
 takes_where_wanting lib w w2 pid q name s there next step =
     subst (λ (x : CallName). IsTrue (call_row x).grows) (asked_next q.cpu name s (slice_get lib q.program) next)
@@ -58,7 +58,7 @@ takes_where_wanting lib w w2 pid q name s there next step =
 -- ---- a step from one machine to another
 
 module _ (m m2 : Machine) (pid at : ℕ) where
-  stands : (x : TraceItem) (step : Step m.programs m.world at x m2.world) → call_for m at ≡ call_in (next_for m.programs step.process)
+  stands : (x : TraceItem) (step : Step m.programs m.world at x m2.world) → call_for m at ≡ call_here (next_for m.programs step.process)
   stands x step = rw (step.is_there, step.is_ready) refl
 
   call_is : (name : CallName) (o : Outcome) → TakesStep m pid m2 (item.Call at name o) → call_for m pid ≡ Some name
@@ -108,13 +108,13 @@ pub woken_to : (ps2 ps3 : List Process) (r2 left fires r3 : Objects) (blocked2 b
     → world_blocked ps3 r3 blocked3 ≡ wakes (world_left ps2 r2 blocked2)
 unfolding wakes fired
 woken_to ps2 ps3 r2 left fires r3 blocked2 blocked3 unheld fired_so awake =
-    awake ∙ ap (λ (w : WorldValue). fold woken w blocked2) (fired_so ∙ ap fired (unheld.world blocked2))
+    awake ∙ ap (λ (w : World). fold woken w blocked2) (fired_so ∙ ap fired (unheld.world blocked2))
 
 abbrev pub machine_value : Library → List Process → Objects → List ℕ → Machine
 machine_value lib ps r blocked = record { programs = lib; world = world_blocked ps r blocked; free = map free_entry ps }
 
 -- the process acted up to where processes wake, and then these did
-does_step : (m : Machine) (pid : ℕ) (m2 : Machine) (x : TraceItem) (who : Woke) (settled : WorldValue) → m2.programs ≡ m.programs
+does_step : (m : Machine) (pid : ℕ) (m2 : Machine) (x : TraceItem) (who : Woke) (settled : World) → m2.programs ≡ m.programs
     → DoesNext m.programs m.world pid x settled → m2.world ≡ wakes settled → HaveLeft settled.blocked who m2.world.blocked → StepsAndWakes m pid m2 x who
 unfolding is_process
 does_step m pid m2 x who settled programs does awake told = record {

@@ -1,20 +1,21 @@
 -- Behind a call that ends no process each registered wait is left, or its caller made it by a handle that the call took.
-use Rattle.zl_calls.proofs.Common.{Acts as ActsBy, All, All-append, All-cons, All-contains, All-filter, All-nil, AreKnown, AtCall, Bool, CallActs, CallName}
+use Rattle.zl_calls.proofs.Common.{ActsHere, All, All-append, All-cons, All-contains, All-filter, All-nil, AreKnown, AtCall, Bool, CallActs, CallName}
 use Rattle.zl_calls.proofs.Common.{CalledAmong, Contains, Does, DoesNext, EndsBy, EndsUnheld, Entry, Err, Handles, IsKnown, IsNoted, IsTrue, KeepsListed}
 use Rattle.zl_calls.proofs.Common.{Library, List, ListsBut, None, NotesNext, Objects, Ok, Option, Outcome, Parts, ProcessCreateDoes, ProcessStartDoes, Request}
-use Rattle.zl_calls.proofs.Common.{Result, Site, Some, Status, Taken, TraceItem, Verdict, WAIT, [], action_of, acts, and_from, and_parts, ap, arith, asks_again}
-use Rattle.zl_calls.proofs.Common.{calls_at, cases_Bool, chan_write, close, entry_at, false, false≢true, get, handle_operands, handles_in, has_handle, has_key}
-use Rattle.zl_calls.proofs.Common.{has_noted, has_seen, inl, inr, is_empty, is_end, is_left, is_made_by_handle, is_some, is_there, keeps_handles, kills}
-use Rattle.zl_calls.proofs.Common.{kills_itself, looks_at_waits, map, name_of, next_for, none-some, not, parts, port_cancel, process_entry, process_start}
-use Rattle.zl_calls.proofs.Common.{process_value, refl, replace, same_Some, site, slice_get, slice_index_or, starts, subst, sym, taken_handles, task_kill}
-use Rattle.zl_calls.proofs.Common.{then_blocked, true, true≢false, wait_async, waits_after, world_blocked, world_left, world_value, ℕ, ⊤, ◌<◌, ◌∙◌, ◌∷◌, ◌≡◌}
-use Rattle.zl_code.proofs.Common.{Process as ProcessValue, World as WorldValue, Acts}
+use Rattle.zl_calls.proofs.Common.{Result, Site, Some, Status, Taken, TraceItem, Verdict, WAIT, [], action_asked, acts, and_from, and_parts, ap, arith}
+use Rattle.zl_calls.proofs.Common.{asks_again, calls_at, cases_Bool, chan_write, close, entry_at, false, false≢true, get, handle_operands, handles_in}
+use Rattle.zl_calls.proofs.Common.{has_handle, has_key, has_noted, has_seen, inl, inr, is_empty, is_end, is_left, is_made_by_handle, is_some, is_there}
+use Rattle.zl_calls.proofs.Common.{keeps_handles, kills, kills_itself, looks_at_waits, map, name_of, next_for, none-some, not, parts, port_cancel}
+use Rattle.zl_calls.proofs.Common.{process_entry, process_start, process_value, refl, replace, same_Some, site, slice_get, slice_index_or, starts, subst, sym}
+use Rattle.zl_calls.proofs.Common.{taken_handles, task_kill, then_blocked, true, true≢false, wait_async, waits_after, world_blocked, world_left, world_value, ℕ}
+use Rattle.zl_calls.proofs.Common.{⊤, ◌<◌, ◌∙◌, ◌∷◌, ◌≡◌}
+use Rattle.zl_code.proofs.Common.{Process as ProcessValue, World, Acts}
 use Rattle.zl_code.specs.declared.history.CallName.TheVariants as name
 use Rattle.zl_code.specs.declared.history.Outcome.TheVariants as outcome
 use Rattle.zl_code.specs.declared.history.TraceItem.TheVariants as item
 use Rattle.zl_rights.specs.declared.status.Status.TheVariants as status
-use Rattle.zl_rights.specs.World.{Wait as WaitValue}
-use Rattle.zl_calls.specs.Reaching.{creates, policed, reaches}
+use Rattle.zl_rights.specs.World.{Wait}
+use Rattle.zl_calls.specs.Reaching.{creates_process, policed, reaches}
 use Rattle.zl_calls.specs.Calling.{OwnWaits}
 use Rattle.zl_calls.specs.Own.{DoesOwn, own_beside}
 use Rattle.zl_calls.specs.declared.policy.Verdict.TheVariants as verdict
@@ -33,13 +34,13 @@ use Rattle.zl_calls.proofs.waits.WaitsByCall.{acted_lists}
 abbrev pub AreThere : Objects → Type 0
 AreThere r = All (λ x. IsTrue (is_there r.objects x)) r.waits
 
-module _ (P : WaitValue → Type 0) where
-  lists_all : (ws : List WaitValue) (made : ℕ) (r r2 : Objects) → ListsBut ws made r r2 → AreThere r2 → All P ws → All P r2.waits
+module _ (P : Wait → Type 0) where
+  lists_all : (ws : List Wait) (made : ℕ) (r r2 : Objects) → ListsBut ws made r r2 → AreThere r2 → All P ws → All P r2.waits
   lists_all ws made r r2 lists present all =
       subst (All P) (sym (lists.waits (is_there r2.objects) (λ x t. t)) ∙ all_pass (is_there r2.objects) r2.waits present)
       (All-filter (is_there r2.objects) P ws all)
 
-  after_all : (request : Request) (o : Outcome) (pid : ℕ) (ws : List WaitValue) → All P ws → All P (waits_after request o pid ws)
+  after_all : (request : Request) (o : Outcome) (pid : ℕ) (ws : List Wait) → All P ws → All P (waits_after request o pid ws)
   after_all (replace h asked) (outcome.Answered status.Ok) pid ws all = All-filter _ P ws all
   after_all (replace h asked) (outcome.Answered s) pid ws all = all
   after_all (replace h asked) o pid ws all = all
@@ -73,11 +74,11 @@ goes_on _ o plain = plain
 module _ {ps : List Process} {r : Objects} {blocked : List ℕ} {pid place : ℕ} {p : Process} (turn : AtTurn ps r blocked pid place p) (lib : Library)
     (all2 : Parts) (o : Outcome) (present : AreThere all2.objects) where
   -- what is so of each wait before a call, and of one that it registers, is so of each behind it
-  module _ (P : WaitValue → Type 0) (before : All P r.waits) where
+  module _ (P : Wait → Type 0) (before : All P r.waits) where
     -- so is it of one that the request registers by the handle e at the value h
     abbrev IsFresh : Request → Type 0
     IsFresh request = keeps_handles (name_of request) ≡ true → (h : ℕ) (e : Entry) → get p.table.entries h ≡ Some e
-        → (x : WaitValue) → x.pid ≡ p.pid → x.value ≡ h → x.object ≡ e.koid → P x
+        → (x : Wait) → x.pid ≡ p.pid → x.value ≡ h → x.object ≡ e.koid → P x
 
     same_all : all2.objects.waits ≡ r.waits → All P all2.objects.waits
     same_all same = subst (All P) (sym same) before
@@ -102,7 +103,7 @@ module _ {ps : List Process} {r : Objects} {blocked : List ℕ} {pid place : ℕ
     does_all Done wants refusal t t2 (Err s) does done = same_all (ap (λ (x : Objects). x.waits) does.same_objects)
 
     looking_all : (request : Request) (consumed destinations : List ℕ) (p2 : Process) → IsFresh request → looks_at_waits request ≡ true
-        → ActsBy (action_of p.pid request) (site request consumed destinations) p r o p2 all2.objects → All P all2.objects.waits
+        → ActsHere (action_asked p.pid request) (site request consumed destinations) p r o p2 all2.objects → All P all2.objects.waits
     looking_all (wait_async h port word mask) c d p2 fresh looks does = does_all _ _ _ _ _ does.answer does.acts (λ x done.
         subst (All P) (sym (ap (λ (y : Objects). y.waits) done.objects))
         (All-append P r.waits _ before (All-cons P _ [] (fresh refl h done.watched
@@ -119,7 +120,7 @@ module _ {ps : List Process} {r : Objects} {blocked : List ℕ} {pid place : ℕ
         by_verdict : (v : Verdict) → EndsBy v s p r o p2 all2.objects → All P all2.objects.waits
         by_verdict verdict.Denied ends = same_all (ap (λ (x : Objects). x.waits) ends.objects)
         by_verdict verdict.Killed ends = absurd (false≢true (sym (goes_on name o plain) ∙ ap is_end ends.ends))
-    by_acts name s named fresh plain (reaches none (creates job program is does)) =
+    by_acts name s named fresh plain (reaches none (creates_process job program is does)) =
         created_all job program does.answer does.between does.is_told.objects does.does
     by_acts name s named fresh plain (reaches none (starts process h word is does)) =
         started_all process h word does.answer does.between does.is_told.objects does.does
@@ -140,7 +141,7 @@ module _ {ps : List Process} {r : Objects} {blocked : List ℕ} {pid place : ℕ
   module _ (name : CallName) (called : CalledAmong lib place p (parts ps r blocked) name o all2) (plain : ends_processes name o ≡ false)
       (t : Taken) (notes : NotesNext lib p r t)
       (acted : HasActed lib ps (left_all all2.processes all2.objects) r all2.objects blocked all2.blocked pid (item.Call pid name o)) where
-    abbrev w : WorldValue
+    abbrev w : World
     w = world_blocked ps r blocked
 
     abbrev after : List Process
@@ -169,10 +170,10 @@ module _ {ps : List Process} {r : Objects} {blocked : List ℕ} {pid place : ℕ
         (ap (next_for lib) (same_Some does.process (process_value p) (sym does.is_there ∙ there turn)) ∙ next) does.acts) does.settles
 
     -- the handle by which the wait was made is live before the call, and names the object that it watches
-    abbrev IsMade : WaitValue → Type 0
+    abbrev IsMade : Wait → Type 0
     IsMade x = (e : Entry) × (entry_at w x.pid x.value ≡ Some e) × (e.koid ≡ x.object)
 
-    known : (x : WaitValue) → All (IsNoted p.table.entries t) (taken_handles called.site.request) → IsTrue (is_there all2.objects.objects x) → IsMade x
+    known : (x : Wait) → All (IsNoted p.table.entries t) (taken_handles called.site.request) → IsTrue (is_there all2.objects.objects x) → IsMade x
         → IsKnown after all2.objects t pid x
     unfolding is_made_by_handle get
     known x noted both made = elim (cases_Bool (has_handle (get (map process_entry after) x.pid) x.value)) as (λ _. IsKnown after all2.objects t pid x) [
@@ -203,7 +204,7 @@ module _ {ps : List Process} {r : Objects} {blocked : List ℕ} {pid place : ℕ
     all_known noted i d inside = known _ noted (present i d inside)
         (by_acts IsMade (λ j e within. (turn.sound.waits j e within).handle) name called.site named (λ keeps. own) plain called.acts i d inside)
       where
-        own : (h : ℕ) (e : Entry) → get p.table.entries h ≡ Some e → (x : WaitValue) → x.pid ≡ p.pid → x.value ≡ h → x.object ≡ e.koid → IsMade x
+        own : (h : ℕ) (e : Entry) → get p.table.entries h ≡ Some e → (x : Wait) → x.pid ≡ p.pid → x.value ≡ h → x.object ≡ e.koid → IsMade x
         own h e at x by value object = (e, rw (by, value, key turn, there turn) at, sym object)
 
     pub taken_known : AreKnown after all2.objects t pid
@@ -217,7 +218,7 @@ module _ {ps : List Process} {r : Objects} {blocked : List ℕ} {pid place : ℕ
       ]
     ]
       where
-        nothing : (ws : List WaitValue) → is_empty ws ≡ true → All (IsKnown after all2.objects t pid) ws
+        nothing : (ws : List Wait) → is_empty ws ≡ true → All (IsKnown after all2.objects t pid) ws
         nothing [] none = All-nil (IsKnown after all2.objects t pid)
         nothing (x ∷ ws) none = absurd (false≢true none)
 
@@ -245,4 +246,4 @@ pub ended_own : (lib : Library) (before after : List Process) (r r2 r3 : Objects
     → EndsUnheld after r2 r3 → DoesOwn lib (own_beside before r blocked) pid x (world_left after r2 (then_blocked pid x blocked2)) after
     → DoesOwn lib (own_beside before r blocked) pid x (world_left after r3 (then_blocked pid x blocked2)) after
 ended_own lib before after r r2 r3 blocked blocked2 pid x unheld =
-    subst (λ (w : WorldValue). DoesOwn lib (own_beside before r blocked) pid x w after) (sym (ended_left after r2 r3 unheld (then_blocked pid x blocked2)))
+    subst (λ (w : World). DoesOwn lib (own_beside before r blocked) pid x w after) (sym (ended_left after r2 r3 unheld (then_blocked pid x blocked2)))

@@ -1,6 +1,6 @@
 -- Handles that a call takes: they leave the table one after another, and close where the call is refused.
 use Rattle.zl_calls.proofs.Common.{AreKeptBut, Closes, ClosesEach, DoesTaking, Entry, Err, Handles, Inserts, KeepsListed, List, Map, None, Objects, Option}
-use Rattle.zl_calls.proofs.Common.{Releases, Replaces, Some, [], ap, append-nil, append_assoc, arith, get, get_or, koids_of, length, map-append, none_left}
+use Rattle.zl_calls.proofs.Common.{Releases, Replaces, Some, [], ap, append-nil, append_assoc, arith, get, get_or, koids_in, length, map-append, none_left}
 use Rattle.zl_calls.proofs.Common.{option_map, option_to_list, refl, releases_then, replace_refusal, subst, sym, take, take_more, taken_from, wants_nothing}
 use Rattle.zl_calls.proofs.Common.{without_handle, without_handles, ℕ, ◌++◌, ◌+◌, ◌-◌, ◌<◌, ◌∙◌, ◌∷◌, ◌≡◌, ◌≤◌}
 use Rattle.zl_code.proofs.Common.{length-append}
@@ -46,11 +46,11 @@ few_taken t (h ∷ hs) = by (get t.entries h) (few_taken (without_handle t h) hs
 
 -- ---- a loop over values
 
-pub released_more : (es : List Entry) (i : ℕ) (e : Entry) → i < length es → (r r2 r3 : Objects) → Releases (koids_of (take i es)) [] r r2
-    → Releases ((get_or es i e).koid ∷ []) [] r2 r3 → Releases (koids_of (take (i + 1) es)) [] r r3
+pub released_more : (es : List Entry) (i : ℕ) (e : Entry) → i < length es → (r r2 r3 : Objects) → Releases (koids_in (take i es)) [] r r2
+    → Releases ((get_or es i e).koid ∷ []) [] r2 r3 → Releases (koids_in (take (i + 1) es)) [] r r3
 released_more es i e within r r2 r3 before last =
     rw (take_more es i e within, map-append (λ (x : Entry). x.koid) (take i es) (get_or es i e ∷ []))
-    (releases_then (koids_of (take i es)) ((get_or es i e).koid ∷ []) [] r r2 r3 before last)
+    (releases_then (koids_in (take i es)) ((get_or es i e).koid ∷ []) [] r r2 r3 before last)
 
 -- the table after one value more, and what left it
 pub table_more : (hs : List ℕ) (i d : ℕ) → i < length hs → (t t2 t3 : Handles) → t2 ≡ without_handles t (take i hs) → t3 ≡ without_handle t2 (get_or hs i d)
@@ -69,11 +69,11 @@ pub room_left : (o : Option Entry) (es es2 : List Entry) (n i room room2 : ℕ) 
 room_left None es es2 n i room room2 within so_far is same = rw (is, same, append-nil es) (omega (arith, within, so_far))
 room_left (Some e) es es2 n i room room2 within so_far is same = rw (is, same, length-append es (e ∷ [])) (omega (arith, within, so_far))
 
-closes_then : (t : Handles) (hs : List ℕ) (o : Option Entry) (r r2 r3 : Objects) → Releases (koids_of (taken_from t hs)) [] r r2 → Closes o r2 r3
-    → Releases (koids_of (taken_from t hs ++ option_to_list o)) [] r r3
+closes_then : (t : Handles) (hs : List ℕ) (o : Option Entry) (r r2 r3 : Objects) → Releases (koids_in (taken_from t hs)) [] r r2 → Closes o r2 r3
+    → Releases (koids_in (taken_from t hs ++ option_to_list o)) [] r r3
 closes_then t hs None r r2 r3 before last = rw (last, append-nil (taken_from t hs)) before
 closes_then t hs (Some e) r r2 r3 before last =
-    rw (map-append (λ (x : Entry). x.koid) (taken_from t hs) (e ∷ [])) (releases_then (koids_of (taken_from t hs)) (e.koid ∷ []) [] r r2 r3 before last)
+    rw (map-append (λ (x : Entry). x.koid) (taken_from t hs) (e ∷ [])) (releases_then (koids_in (taken_from t hs)) (e.koid ∷ []) [] r r2 r3 before last)
 
 pub closes_more : (hs : List ℕ) (i d : ℕ) → i < length hs → (t t2 t3 : Handles) (r r2 r3 : Objects) → ClosesEach (take i hs) t r t2 r2
     → t3 ≡ without_handle t2 (get_or hs i d) → Closes (get t2.entries (get_or hs i d)) r2 r3 → KeepsListed r2 r3 → ClosesEach (take (i + 1) hs) t r t3 r3

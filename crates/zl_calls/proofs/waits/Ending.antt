@@ -1,7 +1,7 @@
 -- Waits end one after another: the objects stay the same but for waits, and of the list just what isn't to end is left.
 use Rattle.zl_calls.proofs.Common.{AreBeside, Bool, EndsUnheld, EndsWaits, IsConsistent, IsPlaceOf, KeepSleepers, List, Map, None, Objects, Option, Some, Wait}
 use Rattle.zl_calls.proofs.Common.{Watch, World, and_parts, ap, arith, eq-eqb, eqb-true, false, filter, get, get_or, has_handle, has_key, has_seen, is_keyed_at}
-use Rattle.zl_calls.proofs.Common.{is_left, is_made_by_handle, is_some, kind_at, kind_in, length, map, not, object_entry, option_map, process_entry}
+use Rattle.zl_calls.proofs.Common.{is_left, is_made_by_handle, is_some, kind_here, kind_in, length, map, not, object_entry, option_map, process_entry}
 use Rattle.zl_calls.proofs.Common.{process_value, refl, slice_get, slice_get-get_or, slice_get_within, subst, sym, true, unlisting, unwatching, world_value, ℕ}
 use Rattle.zl_calls.proofs.Common.{◌&&◌, ◌*◌, ◌+◌, ◌-◌, ◌<◌, ◌==◌, ◌∙◌, ◌≡◌}
 use Rattle.zl_objects.specs.declared.object.Object.{Object}
@@ -12,7 +12,7 @@ use Rattle.zl_calls.proofs.lists.FilterByFirst.{IsSifting, one_less, sifting_end
 -- ---- what is left
 
 -- the kind of an object tells whether it is there
-pub kind_there : (m : Map Object) (k : ℕ) → is_some (kind_at m k) ≡ has_key (map object_entry m) k
+pub kind_there : (m : Map Object) (k : ℕ) → is_some (kind_here m k) ≡ has_key (map object_entry m) k
 kind_there m k = by_object (get m k) ∙ sym (has_seen m k)
   where
     by_object : (o : Option Object) → is_some (option_map (λ (x : Object). kind_in x.body) o) ≡ is_some o

@@ -6,11 +6,11 @@ use Rattle.zl_calls.proofs.Common.{holds_now, inl, inr, is_process, length, leng
 use Rattle.zl_calls.proofs.Common.{option_map, or_parts, packet_of, refl, repacked, same_Some, signals_at, subst, suc, sym, take, true, unlisting, unwatched}
 use Rattle.zl_calls.proofs.Common.{unwatching, update, waits_in, with_packet, without_first, without_place, world_blocked, world_value, zero, ℕ, ◌&&◌, ◌++◌}
 use Rattle.zl_calls.proofs.Common.{◌<◌, ◌==◌, ◌∙◌, ◌∷◌, ◌≡◌}
-use Rattle.zl_signals.specs.Waits.{holds as holds_there, wait_at}
+use Rattle.zl_signals.specs.Waits.{wait_at, watch_holds}
 use Rattle.zl_objects.specs.declared.object.Body.{Body}
 use Rattle.zl_objects.specs.declared.object.Body.TheVariants as body
 use Rattle.zl_objects.specs.declared.object.Object.{Object}
-use Rattle.zl_objects.specs.Waits.{packet_of as packet_given}
+use Rattle.zl_objects.specs.Waits.{packet_here}
 use Rattle.zl_calls.specs.declared.process.Process.{Process}
 use Rattle.zl_calls.proofs.objects.Active.{signals_active}
 use Rattle.zl_calls.proofs.objects.SameButWaits.{beside_consistent, beside_seen, unwatching_beside}
@@ -133,13 +133,13 @@ module _ (ps : List Process) (first : Objects) (place : ℕ) (r : Objects) (so_f
 
     -- the wait is the earliest of all that holds
     module _ (y : Watch) (split : IsFirst is_held (holds_at k a) r.waits (wait_at k y))
-        (earliest : find (holds_there a) (waits_in (get r.objects k)) ≡ Some y) where
+        (earliest : find (watch_holds a) (waits_in (get r.objects k)) ≡ Some y) where
       -- the place is given back first, and then the packet comes
       abbrev without_it : Objects
-      without_it = unwatching (unlisting (holds_at k a) r) k (holds_there a)
+      without_it = unwatching (unlisting (holds_at k a) r) k (watch_holds a)
 
       abbrev with_it : Port → Port
-      with_it p = with_packet p (packet_given k a y)
+      with_it p = with_packet p (packet_here k a y)
 
       at_port_twice : (o : Object) → at_port with_it (at_port without_place o) ≡ at_port (λ p. with_it (without_place p)) o
       at_port_twice o = λ i. record o { body = by_body o.body i }
@@ -149,10 +149,10 @@ module _ (ps : List Process) (first : Objects) (place : ℕ) (r : Objects) (so_f
           by_body _ = refl
 
       abbrev unwatched_it : Map Object
-      unwatched_it = update r.objects k (unwatched (holds_there a))
+      unwatched_it = update r.objects k (unwatched (watch_holds a))
 
       objects_are : fired_here.objects ≡ update without_it.objects y.port (at_port with_it)
-      objects_are = ap (λ (o : Option Watch). at_port_of o (λ x port. with_packet (without_place port) (packet_given k a x)) unwatched_it) earliest
+      objects_are = ap (λ (o : Option Watch). at_port_of o (λ x port. with_packet (without_place port) (packet_here k a x)) unwatched_it) earliest
           ∙ (sym (update_twice unwatched_it y.port (at_port without_place) (at_port with_it) ∙ (λ i. update unwatched_it y.port (λ o. at_port_twice o i)))
           ∙ ap (λ (o : Option Watch). update (at_port_of o (λ x. without_place) unwatched_it) y.port (at_port with_it)) (sym earliest))
 
@@ -160,7 +160,7 @@ module _ (ps : List Process) (first : Objects) (place : ℕ) (r : Objects) (so_f
       fired_is = λ i. record (unlisting (holds_at k a) r) { objects = objects_are i }
 
       beside_it : AreBeside r without_it
-      beside_it = record { objects = (unwatching_beside (unlisting (holds_at k a) r) k (holds_there a)).objects; koids = refl }
+      beside_it = record { objects = (unwatching_beside (unlisting (holds_at k a) r) k (watch_holds a)).objects; koids = refl }
 
       fired_consistent : IsConsistent ps fired_here
       fired_consistent = subst (IsConsistent ps) (sym fired_is)
@@ -172,7 +172,7 @@ module _ (ps : List Process) (first : Objects) (place : ℕ) (r : Objects) (so_f
         abbrev w : World
         w = world_blocked ps r blocked
 
-        packet_same : packet_given k a y ≡ packet_of w (wait_at k y)
+        packet_same : packet_here k a y ≡ packet_of w (wait_at k y)
         packet_same = λ i. record {
           kind = 1;
           key = y.key;
@@ -184,8 +184,8 @@ module _ (ps : List Process) (first : Objects) (place : ℕ) (r : Objects) (so_f
         seen : map object_entry fired_here.objects
             ≡ update (map object_entry r.objects) y.port (repacked (λ (qs : List Packet). qs ++ packet_of w (wait_at k y) ∷ []))
         seen = ap (map object_entry) objects_are
-            ∙ (update_seen object_value without_it.objects y.port (at_port with_it) (repacked (λ (qs : List Packet). qs ++ packet_given k a y ∷ []))
-            (packed_seen with_it (λ qs. qs ++ packet_given k a y ∷ []) (λ x. refl))
+            ∙ (update_seen object_value without_it.objects y.port (at_port with_it) (repacked (λ (qs : List Packet). qs ++ packet_here k a y ∷ []))
+            (packed_seen with_it (λ qs. qs ++ packet_here k a y ∷ []) (λ x. refl))
             ∙ (λ i. update (beside_seen ps r without_it beside_it i) y.port (repacked (λ (qs : List Packet). qs ++ packet_same i ∷ []))))
 
         world_is : world_blocked ps fired_here blocked ≡ after_one w split.before split.behind (wait_at k y)
@@ -234,12 +234,12 @@ module _ (ps : List Process) (first : Objects) (place : ℕ) (r : Objects) (so_f
                 (ap (λ (test : Wait → Bool). find test r.waits) (told_by_objects ps r so_far.consistent) ∙ found),
           )
 
-      pub turn_fired : (taken : Option Watch) → taken ≡ find (holds_there a) (waits_in (get r.objects k))
+      pub turn_fired : (taken : Option Watch) → taken ≡ find (watch_holds a) (waits_in (get r.objects k))
           → option_map (wait_at k) taken ≡ find (holds_at k a) r.waits → (place2 : ℕ)
           → list_any (holds_now r.objects) (take place2 r.waits) ≡ false → IsFiring ps first place2 fired_here
       turn_fired taken earliest listed place2 none = by_taken taken earliest (listed ∙ next.1.found)
         where
-          by_taken : (o : Option Watch) → o ≡ find (holds_there a) (waits_in (get r.objects k)) → option_map (wait_at k) o ≡ Some next.0
+          by_taken : (o : Option Watch) → o ≡ find (watch_holds a) (waits_in (get r.objects k)) → option_map (wait_at k) o ≡ Some next.0
               → IsFiring ps first place2 fired_here
           by_taken None none some = absurd (none-some next.0 some)
           by_taken (Some y) earliest some =

@@ -5,7 +5,7 @@ use Rattle.zl_calls.proofs.Common.{ap, arith, cases_Bool, entry_at, false, false
 use Rattle.zl_calls.proofs.Common.{is_blocked, is_left, is_made_by_handle, is_there, map, names_its_object, next_for, next_looks, none-some, not, object_entry}
 use Rattle.zl_calls.proofs.Common.{pid_of, process_entry, refl, settled_sound, settles_waiting, slice_index_or, state_passes, stays_but, subst, suc, sym}
 use Rattle.zl_calls.proofs.Common.{tells_blocking, true, waits_by, with_waiters, world_blocked, world_left, world_value, ℕ, ◌&&◌, ◌∙◌, ◌∷◌, ◌≡◌}
-use Rattle.zl_code.proofs.Common.{Calls, IsSound as IsSoundWorld, Process as ProcessValue}
+use Rattle.zl_code.proofs.Common.{Calls, IsSound, Process as ProcessValue}
 use Rattle.zl_code.specs.declared.history.TraceItem.TheVariants as item
 use Rattle.zl_code.proofs.StepsWaiting.{step_waiting, is_left as is_left_at_port}
 use Rattle.zl_calls.specs.declared.process.Process.{Process}
@@ -27,7 +27,7 @@ agreeing {X} p q (x ∷ xs) within all = elim (cases_Bool (q x)) as (λ _. filte
 ]
 
 -- in a sound world each wait's object is there
-pub watched_there : (w : World) → IsSoundWorld w → All (λ (x : Wait). IsTrue (has_key w.objects x.object)) w.waits
+pub watched_there : (w : World) → IsSound w → All (λ (x : Wait). IsTrue (has_key w.objects x.object)) w.waits
 unfolding get
 watched_there w sound i d inside = one (slice_index_or w.waits i d) (sound.waits i d inside)
   where
@@ -52,7 +52,7 @@ at_port w x left =
     and_from (is_made_by_handle w x) (has_key w.objects x.port) parts.0 (and_parts (has_key w.objects x.object) (has_key w.objects x.port) parts.1).1
 
 -- of the waits of a sound world all are left by the one test that are by the other
-pub left_alike : (w : World) (ws : List Wait) (n : ℕ) (b : List ℕ) → IsSoundWorld (with_waiters w (filter (is_left_at_port w) ws) n b)
+pub left_alike : (w : World) (ws : List Wait) (n : ℕ) (b : List ℕ) → IsSound (with_waiters w (filter (is_left_at_port w) ws) n b)
     → filter (is_left w) ws ≡ filter (is_left_at_port w) ws
 unfolding is_made_by_handle
 left_alike w ws n b sound = agreeing (is_left w) (is_left_at_port w) ws (at_port w) (λ i d inside.
@@ -100,7 +100,7 @@ pub lists_kept : (after : List Process) (r r2 : Objects) (ws : List Wait) (made 
 lists_kept after r r2 ws made = lists_left after r r2 ws made (λ k v ends. absurd (false≢true ends))
 
 module _ (lib : Library) (before after : List Process) (r r2 : Objects) (pid : ℕ) (x : TraceItem) (blocked : List ℕ)
-    (sound : IsSoundWorld (world_blocked before r blocked)) where
+    (sound : IsSound (world_blocked before r blocked)) where
   abbrev w2 : World
   w2 = world_value after r2
 
@@ -146,7 +146,7 @@ module _ (lib : Library) (before after : List Process) (r r2 : Objects) (pid : �
 
 -- a call that looks at waits is done beside them, and nothing goes with it
 pub left_looking : (lib : Library) (before after : List Process) (r r2 : Objects) (pid : ℕ) (q : ProcessValue) (call : CallName) (s : Site) (o : Outcome)
-    (blocked : List ℕ) → IsSoundWorld (world_blocked before r blocked) → KeepSleepers r r2
+    (blocked : List ℕ) → IsSound (world_blocked before r blocked) → KeepSleepers r r2
     → get (map process_entry before) pid ≡ Some q → q.state ≡ Ready → next_for lib q ≡ AtCall call s
     → Calls lib (world_blocked before r blocked) pid s o (world_blocked after r2 blocked) → Settles (world_value after r2) (settled_world after r2)
     → IsActed lib (world_blocked before r blocked) pid (item.Call pid call o) (world_left (left_all after r2) r2 blocked)

@@ -3,7 +3,7 @@ use Rattle.zl_calls.proofs.Common.{All, All-head, All-tail, Bool, Entry, IsSound
 use Rattle.zl_calls.proofs.Common.{ap, body_in, false, false≢true, filter, get, handles_in, has_handle, has_key, has_seen, if◌then◌else◌, is_left}
 use Rattle.zl_calls.proofs.Common.{is_made_by_handle, is_port_there, is_some, map, none-some, object_entry, process_entry, process_value, refl, same_Some}
 use Rattle.zl_calls.proofs.Common.{slice_get, slice_index_or, slice_set, suc, sym, true, world_blocked, world_value, zero, ℕ, ◌++◌, ◌==◌, ◌∙◌, ◌∷◌, ◌≡◌, []}
-use Rattle.zl_code.proofs.Common.{Object as ObjectValue, Process as ProcessValue, IsSound as IsSoundWorld}
+use Rattle.zl_code.proofs.Common.{Object, Process as ProcessValue, IsSound}
 use Rattle.zl_calls.specs.declared.process.Process.{Process}
 use Rattle.zl_calls.proofs.waits.LeftWaits.{watched_there}
 
@@ -83,7 +83,7 @@ all_pass {X} test (x ∷ xs) all =
     rw (All-head (λ y. IsTrue (test y)) x xs all) (ap (λ (ys : List X). x ∷ ys) (all_pass test xs (All-tail (λ y. IsTrue (test y)) x xs all)))
 
 -- in a sound world each wait is left
-pub sound_left : (ps : List Process) (r : Objects) (blocked : List ℕ) → IsSoundWorld (world_blocked ps r blocked) → AreLeft ps r r.waits
+pub sound_left : (ps : List Process) (r : Objects) (blocked : List ℕ) → IsSound (world_blocked ps r blocked) → AreLeft ps r r.waits
 unfolding is_made_by_handle get
 sound_left ps r blocked sound i d inside =
     one (slice_index_or r.waits i d) (sound.waits i d inside) (watched_there (world_blocked ps r blocked) sound i d inside)
@@ -92,7 +92,7 @@ sound_left ps r blocked sound i d inside =
     by_process None v e at = absurd (none-some e at)
     by_process (Some q) v e at = rw at refl
 
-    port_there : (o : Option ObjectValue) → IsTrue (is_port_there (body_in o)) → IsTrue (is_some o)
+    port_there : (o : Option Object) → IsTrue (is_port_there (body_in o)) → IsTrue (is_some o)
     port_there None none = absurd (false≢true none)
     port_there (Some o) there = refl
 

@@ -1,8 +1,8 @@
 -- What each call leaves of handles and objects, if it takes no handle, and of the list of registered waits: replace ends its own, and others end with
 -- objects and ports alone.
-use Rattle.zl_calls.proofs.Common.{Acted, Acts, Bool, CallName, ChanReadDoes, ChanWriteDoes, Does, Entry, Err, Handles, IsRefusedBy, KeepSleepers, List}
+use Rattle.zl_calls.proofs.Common.{Acted, ActsHere, Bool, CallName, ChanReadDoes, ChanWriteDoes, Does, Entry, Err, Handles, IsRefusedBy, KeepSleepers, List}
 use Rattle.zl_calls.proofs.Common.{ListsBut, ListsWithout, MakesOne, MakesPair, None, Objects, Ok, Option, Outcome, Pair, ReadFault, Received, ReplaceDoes}
-use Rattle.zl_calls.proofs.Common.{Request, Result, Site, Some, Status, Wait, action_of, ap, calls_at, chan_create, chan_read_etc, chan_write, close, dup}
+use Rattle.zl_calls.proofs.Common.{Request, Result, Site, Some, Status, Wait, action_asked, ap, calls_at, chan_create, chan_read_etc, chan_write, close, dup}
 use Rattle.zl_calls.proofs.Common.{event_create, eventpair_create, false, false≢true, filter, get, inl, inr, is_empty, is_end, job_create, job_set_policy}
 use Rattle.zl_calls.proofs.Common.{keeps_handles, looks_at_waits, name_of, narrowed, next_looks, port_cancel, port_create, port_poll, port_queue, port_wait}
 use Rattle.zl_calls.proofs.Common.{process_exit, process_start, refl, replace, replace_refusal_of, signal, signal_peer, site, status_of, subst, sym, task_kill}
@@ -66,7 +66,7 @@ module _ (p p2 : Process) (r r2 : Objects) where
 
   module _ (o : Outcome) (consumed destinations : List ℕ) where
     abbrev ActsSo : Request → Type 0
-    ActsSo request = Acts (action_of p.pid request) (site request consumed destinations) p r o p2 r2
+    ActsSo request = ActsHere (action_asked p.pid request) (site request consumed destinations) p r o p2 r2
 
     pub request_stays : (request : Request) → keeps_handles (name_of request) ≡ true → looks_at_waits request ≡ false → ActsSo request → Stays r r2
     request_stays (close h) keeps plain acts = absurd (false≢true keeps)

@@ -5,7 +5,7 @@ use Rattle.zl_calls.proofs.Common.{false, false≢true, filter, filter_passes, g
 use Rattle.zl_calls.proofs.Common.{is_there, job_in, not, refl, stays_but, stopped, stopping, subst, sym, true, ℕ, ◌&&◌, ◌==◌, ◌∙◌, ◌∷◌, ◌≡◌}
 use Rattle.zl_objects.proofs.Bare.{has_same}
 use Rattle.zl_objects.proofs.Released.{was_there}
-use Rattle.zl_objects.specs.Release.{Ends as ObjectEnds, Ended as ObjectEnded}
+use Rattle.zl_objects.specs.Release.{Ends as ObjectEnds, EndedHere}
 
 -- what passes the one test passes the other, which then takes nothing away that counts
 pub filter_within : {X : Type 0} (p q : X → Bool) (xs : List X) → ((x : X) → IsTrue (p x) → IsTrue (q x)) → filter p (filter q xs) ≡ filter p xs
@@ -94,7 +94,7 @@ listed_gone ks loose r r2 releases left = leaves r r2 left (was_there r.objects 
 pub listed_over : {over : ℕ → Bool} (k : ℕ) (r r2 : Objects) → ObjectEnds k r r2 → LeavesListed r r2 → KeepsWithout over r r2
 listed_over {over} k r r2 ends left = by_job (job_in (get r.objects k)) ends
   where
-    by_job : (job : Option ℕ) → ObjectEnded k job r r2 → KeepsWithout over r r2
+    by_job : (job : Option ℕ) → EndedHere k job r r2 → KeepsWithout over r r2
     by_job None same = rw same (listed_same r)
     by_job (Some job) releases = leaves r r2 left (λ j there.
         sym (has_key-update r.objects k stopped j)

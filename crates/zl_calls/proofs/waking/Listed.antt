@@ -3,8 +3,8 @@ use Rattle.zl_calls.proofs.Common.{All, All-contains, AreBlocked, AreOrdered, Ar
 use Rattle.zl_calls.proofs.Common.{IsConsistent, IsTrue, KeepSleepers, List, None, Objects, Option, Packet, PacketAt, Ready, Seeks, SignalOf, Sleeper, Some}
 use Rattle.zl_calls.proofs.Common.{StandInOrder, State, TakesDue, Wakes, WakesOne, WakesSleeper, Woke, World, [], and_one, and_parts, ap, arith, awaited_of}
 use Rattle.zl_calls.proofs.Common.{bare, cases_Bool, each, eq-eqb, eqb-true, false, false≢true, filter, fold, get, get_or, given_awake, if◌then◌else◌, inl, inr}
-use Rattle.zl_calls.proofs.Common.{is_blocked, is_due, is_empty, is_for, is_same, is_some, listed_for, map, meets, none-some, not, object_value}
-use Rattle.zl_calls.proofs.Common.{option_map, packet_values, packets_in, passes, position, process_entry, refl, same_Some, signals_at, slice_get, state_passes}
+use Rattle.zl_calls.proofs.Common.{is_blocked, is_due, is_empty, is_for, is_same, is_some, listed_for, map, meets, none-some, not, object_value, option_map}
+use Rattle.zl_calls.proofs.Common.{packet_values, packets_found, passes, position, process_entry, refl, same_Some, signals_at, slice_get, state_passes}
 use Rattle.zl_calls.proofs.Common.{state_value, subst, sym, takes_at, takes_from, then_some, times, times-same, true, woken, world_blocked, ℕ, ◌&&◌, ◌<◌, ◌==◌}
 use Rattle.zl_calls.proofs.Common.{◌^◌, ◌∙◌, ◌∷◌, ◌≡◌}
 use Rattle.zl_rights.specs.World.{Awaited as AwaitedValue}
@@ -12,7 +12,7 @@ use Rattle.zl_code.proofs.Common.{Process as ProcessValue}
 use Rattle.zl_objects.specs.declared.awaited.Awaited.{Awaited}
 use Rattle.zl_objects.specs.declared.awaited.Awaited.TheVariants as awaits
 use Rattle.zl_objects.proofs.Sleeping.{at_port}
-use Rattle.zl_calls.specs.Blocking.{awaited_by, awaited_in}
+use Rattle.zl_calls.specs.Blocking.{awaited_found, awaited_in}
 use Rattle.zl_calls.specs.declared.process.Process.{Process}
 use Rattle.zl_calls.specs.World.{held}
 use Rattle.zl_calls.specs.declared.waking.Woke.TheVariants as woke
@@ -36,7 +36,7 @@ due_woke (Blocked (SignalOf k mask) ds) r a is = by_test (meets (signals_at r.ob
     by_test : (b : Bool) → meets (signals_at r.objects k) mask ≡ b → is_some (then_some b (signals_at r.objects k ∷ [])) ≡ b
     by_test true h = refl
     by_test false h = refl
-due_woke (Blocked (PacketAt port) ds) r a is = by_packets (packets_in (get r.objects port)) ∙ ap (is_due r.objects) (same_Some (awaits.PacketAt port) a is)
+due_woke (Blocked (PacketAt port) ds) r a is = by_packets (packets_found (get r.objects port)) ∙ ap (is_due r.objects) (same_Some (awaits.PacketAt port) a is)
   where
     by_packets : (xs : List Packet) → is_some (option_map packet_values (slice_get xs 0)) ≡ not (is_empty xs)
     by_packets [] = refl
@@ -48,7 +48,7 @@ due_woke Gone r a is = absurd (none-some a is)
 
 -- the same of the process at a place of the list
 pub due_there : (ps : List Process) (pid place : ℕ) (p : Process) → Some place ≡ position (λ q. q.pid == pid) ps → p ≡ get_or ps place p
-    → (r : Objects) (a : Awaited) → awaited_by (get (map process_entry ps) pid) ≡ Some a → is_some (given_awake (state_value p.state) r) ≡ is_due r.objects a
+    → (r : Objects) (a : Awaited) → awaited_found (get (map process_entry ps) pid) ≡ Some a → is_some (given_awake (state_value p.state) r) ≡ is_due r.objects a
 due_there ps pid place p found read r a is = due_woke (state_value p.state) r a (rw (stands_there ps pid place p found read) at is)
 
 pub same_awaited : (a b : Awaited) → is_same a b ≡ true → a ≡ b
@@ -64,7 +64,7 @@ awaited_same (awaits.PacketAt k) = eq-eqb k k refl
 
 -- ---- one that is listed
 
-blocked_so : (o : Option ProcessValue) (a : Awaited) → awaited_by o ≡ Some a → state_passes is_blocked o ≡ true
+blocked_so : (o : Option ProcessValue) (a : Awaited) → awaited_found o ≡ Some a → state_passes is_blocked o ≡ true
 blocked_so None a h = absurd (none-some a h)
 blocked_so (Some p) a h = by_state p.state h
   where
@@ -75,18 +75,18 @@ blocked_so (Some p) a h = by_state p.state h
     by_state (Ended code) h = absurd (none-some a h)
     by_state Gone h = absurd (none-some a h)
 
-pub counter_of : (ps : List Process) → HaveCounters ps → (k : ℕ) (a : Awaited) → awaited_by (get (map process_entry ps) k) ≡ Some a → (p : ProcessValue)
+pub counter_of : (ps : List Process) → HaveCounters ps → (k : ℕ) (a : Awaited) → awaited_found (get (map process_entry ps) k) ≡ Some a → (p : ProcessValue)
     → get (map process_entry ps) k ≡ Some p → p.cpu.counter < 2 ^ 32
 counter_of ps counters k a is p at = counters k p at (rw at at (blocked_so (get (map process_entry ps) k) a is))
 
 -- what the process waits for is there, so it wakes
 pub sleeper_turn : (s : Sleeper) (woke : Bool) (ps : List Process) (r : Objects) (ps2 : List Process) (r2 : Objects)
-    → awaited_by (get (map process_entry ps) s.pid) ≡ Some s.awaited → woke ≡ true → WakesOne s.pid woke ps r ps2 r2 → KeepSleepers r r2
+    → awaited_found (get (map process_entry ps) s.pid) ≡ Some s.awaited → woke ≡ true → WakesOne s.pid woke ps r ps2 r2 → KeepSleepers r r2
     → WakesSleeper s woke ps r ps2 r2
 sleeper_turn s true ps r ps2 r2 is due wakes kept = (is, wakes, kept)
 sleeper_turn s false ps r ps2 r2 is due wakes kept = absurd (false≢true due)
 
-pub sleeper_misses : (s : Sleeper) (woke : Bool) (ps : List Process) (r : Objects) → (awaited_by (get (map process_entry ps) s.pid) ≡ Some s.awaited → ⊥)
+pub sleeper_misses : (s : Sleeper) (woke : Bool) (ps : List Process) (r : Objects) → (awaited_found (get (map process_entry ps) s.pid) ≡ Some s.awaited → ⊥)
     → woke ≡ false → WakesSleeper s woke ps r ps r
 sleeper_misses s false ps r elsewhere none = (elsewhere, refl, refl)
 sleeper_misses s true ps r elsewhere none = absurd (false≢true (sym none))
@@ -160,13 +160,13 @@ module _ (ps0 : List Process) (r0 : Objects) (first : List ℕ) where
           ≡ filter test (listed_for r1.sleepers port)) [ inl its ↦ rw (its, out its) refl | inr other ↦ rw other refl ])
 
       -- it isn't blocked on that
-      pub sleeper_stays : (awaited_by (get (map process_entry ps) s.pid) ≡ Some s.awaited → ⊥) → IsWakingListed ps0 r0 first ps r1 b who
+      pub sleeper_stays : (awaited_found (get (map process_entry ps) s.pid) ≡ Some s.awaited → ⊥) → IsWakingListed ps0 r0 first ps r1 b who
       sleeper_stays elsewhere = record {
         so_far = ap (λ (w : World). fold woken w b) (taken_world b) ∙ so_far.so_far;
         consistent = taken_consistent;
         list = so_far.list;
         sought = λ k p a ds at is. inr (still_listed k p a ds at is (λ same. elsewhere (
-            subst (λ (x : Sleeper). awaited_by (get (map process_entry ps) x.pid) ≡ Some x.awaited) same (rw at (ap awaited_in is))
+            subst (λ (x : Sleeper). awaited_found (get (map process_entry ps) x.pid) ≡ Some x.awaited) same (rw at (ap awaited_in is))
             )));
         stand = λ port. but_it (takes_at ps port) port (nowhere port) ∙ so_far.stand port;
         all = taken_all;
@@ -174,7 +174,7 @@ module _ (ps0 : List Process) (r0 : Objects) (first : List ℕ) where
         told = so_far.told;
       }
         where
-          at_its_port : (port : ℕ) (o : Option ProcessValue) → state_passes (takes_from port) o ≡ true → awaited_by o ≡ Some (awaits.PacketAt port)
+          at_its_port : (port : ℕ) (o : Option ProcessValue) → state_passes (takes_from port) o ≡ true → awaited_found o ≡ Some (awaits.PacketAt port)
           at_its_port port None h = absurd (false≢true h)
           at_its_port port (Some p) h = by_state p.state h
             where
@@ -189,7 +189,7 @@ module _ (ps0 : List Process) (r0 : Objects) (first : List ℕ) where
           ]
 
       -- it wakes
-      module _ (waits : awaited_by (get (map process_entry ps) s.pid) ≡ Some s.awaited) (ps2 : List Process) (r2 : Objects)
+      module _ (waits : awaited_found (get (map process_entry ps) s.pid) ≡ Some s.awaited) (ps2 : List Process) (r2 : Objects)
           (wakes_it : WakesOne s.pid true ps r1 ps2 r2) (kept : KeepSleepers r1 r2) where
         abbrev later : List ℕ
         later = filter (λ k. not (k == s.pid)) b

@@ -7,7 +7,7 @@ use Rattle.zl_calls.proofs.Common.{◌==◌, ◌||◌, ◌∙◌, ◌∷◌, ◌
 use Rattle.std.proofs.Math.Dec.{ltb}
 use Rattle.zl_code.proofs.Common.{Process as ProcessValue, ltb-false, ltb-true}
 use Rattle.zl_objects.specs.declared.awaited.Awaited.{Awaited}
-use Rattle.zl_calls.specs.Blocking.{awaited_by, awaited_in}
+use Rattle.zl_calls.specs.Blocking.{awaited_found, awaited_in}
 use Rattle.zl_calls.specs.declared.process.Process.{Process}
 use Rattle.zl_calls.proofs.calls.Answered.{IsWrite}
 use Rattle.zl_calls.proofs.processes.Written.{get_after}
@@ -105,7 +105,7 @@ takes_none ps port k none = elim (cases_Bool (takes_at ps port k)) as (λ _. tak
 ]
 
 -- what a process that waits for this takes
-pub takes_awaited : (port : ℕ) (o : Option ProcessValue) (a : Awaited) → awaited_by o ≡ Some a → state_passes (takes_from port) o ≡ is_for port a
+pub takes_awaited : (port : ℕ) (o : Option ProcessValue) (a : Awaited) → awaited_found o ≡ Some a → state_passes (takes_from port) o ≡ is_for port a
 takes_awaited port None a is = absurd (none-some a is)
 takes_awaited port (Some p) a is = by_state p.state is
   where

@@ -1,9 +1,9 @@
 -- Where the objects are quiet, no wait fires and no process wakes.
 use Rattle.zl_calls.proofs.Common.{Blocked, Bool, FiresWaits, IsConsistent, List, None, Objects, Option, Packet, PacketAt, SignalOf, Some, State, Wait, World}
 use Rattle.zl_calls.proofs.Common.{[], active, ap, awaited_of, false, false≢true, fold, get, get_seen, has_child_job, has_child_process, holds, holds_now}
-use Rattle.zl_calls.proofs.Common.{is_due, is_empty, is_process, list_any, made_ready, map, meets, none_holds, not, object_value, packets_in, packets_of}
+use Rattle.zl_calls.proofs.Common.{is_due, is_empty, is_process, list_any, made_ready, map, meets, none_holds, not, object_value, packets_found, packets_of}
 use Rattle.zl_calls.proofs.Common.{process_entry, refl, signals_at, subst, sym, wakes, woken, woken_at_port, world_blocked, ℕ, ◌∙◌, ◌∷◌, ◌≡◌}
-use Rattle.zl_rights.specs.World.{Awaited as AwaitedValue}
+use Rattle.zl_rights.specs.World.{Awaited}
 use Rattle.zl_code.proofs.Common.{Process as ProcessValue}
 use Rattle.zl_objects.specs.declared.object.Body.{Body}
 use Rattle.zl_objects.specs.declared.object.Body.TheVariants as body
@@ -35,7 +35,7 @@ module _ (ps : List Process) (r : Objects) (consistent : IsConsistent ps r) wher
     no_packet [] h = refl
     no_packet (x ∷ xs) h = absurd (false≢true (sym h))
 
-    idle_port : (q : ℕ) (p : ProcessValue) (port : ℕ) (ds : List ℕ) (o : Option Object) → get r.objects port ≡ o → not (is_empty (packets_in o)) ≡ false
+    idle_port : (q : ℕ) (p : ProcessValue) (port : ℕ) (ds : List ℕ) (o : Option Object) → get r.objects port ≡ o → not (is_empty (packets_found o)) ≡ false
         → woken_at_port (world_blocked ps r blocked) q p port ds (get (world_blocked ps r blocked).objects port) ≡ world_blocked ps r blocked
     idle_port q p port ds None at quiet = rw (get_seen r.objects port, at) refl
     idle_port q p port ds (Some o) at quiet = rw (get_seen r.objects port, at) (by_body o.body quiet)
@@ -50,7 +50,7 @@ module _ (ps : List Process) (r : Objects) (consistent : IsConsistent ps r) wher
         by_body (body.PairEnd peer) quiet = refl
 
     -- a process doesn't wake for which nothing is there
-    pub idle : (q : ℕ) → ((p : ProcessValue) (a : AwaitedValue) (ds : List ℕ) → get (map process_entry ps) q ≡ Some p → p.state ≡ Blocked a ds
+    pub idle : (q : ℕ) → ((p : ProcessValue) (a : Awaited) (ds : List ℕ) → get (map process_entry ps) q ≡ Some p → p.state ≡ Blocked a ds
         → is_due r.objects (awaited_of a) ≡ false) → woken (world_blocked ps r blocked) q ≡ world_blocked ps r blocked
     unfolding woken made_ready
     idle q quiet = by_process (get (map process_entry ps) q) refl
@@ -68,7 +68,7 @@ module _ (ps : List Process) (r : Objects) (consistent : IsConsistent ps r) wher
         by_process (Some p) there = by_state p there p.state refl
 
     -- none wakes
-    pub quiet_wakes : ((k : ℕ) (p : ProcessValue) (a : AwaitedValue) (ds : List ℕ) → get (map process_entry ps) k ≡ Some p → p.state ≡ Blocked a ds
+    pub quiet_wakes : ((k : ℕ) (p : ProcessValue) (a : Awaited) (ds : List ℕ) → get (map process_entry ps) k ≡ Some p → p.state ≡ Blocked a ds
         → is_due r.objects (awaited_of a) ≡ false) → (qs : List ℕ) → fold woken (world_blocked ps r blocked) qs ≡ world_blocked ps r blocked
     quiet_wakes quiet [] = refl
     quiet_wakes quiet (q ∷ qs) = ap (λ (w : World). fold woken w qs) (idle q (quiet q)) ∙ quiet_wakes quiet qs

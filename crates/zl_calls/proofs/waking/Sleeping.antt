@@ -1,13 +1,13 @@
 -- A call blocks: it is a step up to where processes wake, its process is the last of the blocked, and the invariant holds afterwards.
 use Rattle.zl_calls.proofs.Common.{Agrees, AreBlocked, AtCall, Awaited, Blocked, CallName, IsActed, IsConsistent, Library, List, Map, None, Objects, Outcome}
 use Rattle.zl_calls.proofs.Common.{Ready, Settles, Site, Some, [], ap, awaited_by, blocked_in, has_ended, is_blocked, lives, next_for, on_process}
-use Rattle.zl_calls.proofs.Common.{process_value, refl, refusal, runs, state_value, subst, sym, world_blocked, world_left, world_value, ℕ, ◌++◌, ◌<◌, ◌^◌, ◌∙◌}
-use Rattle.zl_calls.proofs.Common.{◌∷◌, ◌≡◌}
-use Rattle.zl_code.proofs.Common.{Process as ProcessValue, State as StateValue}
+use Rattle.zl_calls.proofs.Common.{plain_refusal, process_value, refl, runs, state_value, subst, sym, world_blocked, world_left, world_value, ℕ, ◌++◌, ◌<◌, ◌^◌}
+use Rattle.zl_calls.proofs.Common.{◌∙◌, ◌∷◌, ◌≡◌}
+use Rattle.zl_code.proofs.Common.{Process as ProcessValue, State}
 use Rattle.zl_code.specs.declared.history.Outcome.TheVariants as outcome
 use Rattle.zl_code.specs.declared.history.TraceItem.TheVariants as item
 use Rattle.zl_code.proofs.StepsWaiting.{block_waiting}
-use Rattle.zl_code.specs.Sound.{IsSound as IsSoundWorld}
+use Rattle.zl_code.specs.Sound.{IsSound}
 use Rattle.zl_objects.specs.declared.object.Body.{Body}
 use Rattle.zl_calls.proofs.Common.{Request, World, handle_operands, is_process, none-some, port_wait, taken_handles, true, wait_one, without_handles}
 use Rattle.zl_code.proofs.StepsBeside.{blocks_among}
@@ -31,7 +31,7 @@ pub record IsAsleep (lib : Library) (before : List Process) (r r2 : Objects) (p 
   pub at : Site
   pub next : next_for lib (process_value p) ≡ AtCall name at
   pub awaited : Awaited
-  pub passes : refusal lib (world_value before r) p.pid at.request ≡ None
+  pub passes : plain_refusal lib (world_value before r) p.pid at.request ≡ None
   pub is_awaited : awaited_by (world_value before r) p.pid at.request ≡ Some awaited
   pub ends : o ≡ outcome.Blocked
   pub process : p2 ≡ record p { state = p2.state }
@@ -69,10 +69,10 @@ module _ {before after : List Process} {r : Objects} {p p2 : Process} (lib : Lib
       (sym (write.writes (λ q. record q { state = Blocked sleeps.awaited sleeps.at.destinations }) is))
     where
       is : process_value p2 ≡ record (process_value p) { state = Blocked sleeps.awaited sleeps.at.destinations }
-      is = ap process_value sleeps.process ∙ ap (λ (s : StateValue). record (process_value p) { state = s }) sleeps.state
+      is = ap process_value sleeps.process ∙ ap (λ (s : State). record (process_value p) { state = s }) sleeps.state
 
   -- beside registered waits and other blocked processes
-  pub asleep_acts : (blocked : List ℕ) → IsFree lib (world_value before r) p.pid name → IsSoundWorld (world_blocked before r blocked)
+  pub asleep_acts : (blocked : List ℕ) → IsFree lib (world_value before r) p.pid name → IsSound (world_blocked before r blocked)
       → IsActed lib (world_blocked before r blocked) p.pid (item.Call p.pid name outcome.Blocked) (world_left (left_all after r) r (blocked ++ (p.pid ∷ [])))
   asleep_acts blocked free sound =
       left_by lib before (left_all after r) r r p.pid (item.Call p.pid name outcome.Blocked) blocked sound r.waits r.waits_made (blocked ++ (p.pid ∷ []))
@@ -90,7 +90,7 @@ module _ {before after : List Process} {r : Objects} {p p2 : Process} (lib : Lib
   makes_none _ awaited is = absurd (none-some awaited is)
 
   -- and the lab does it so
-  pub asleep_own : (blocked : List ℕ) → IsFree lib (world_value before r) p.pid name → IsSoundWorld (world_blocked before r blocked)
+  pub asleep_own : (blocked : List ℕ) → IsFree lib (world_value before r) p.pid name → IsSound (world_blocked before r blocked)
       → IsOwnDone lib (own_beside before r blocked) p.pid (next_for lib (process_value p)) (item.Call p.pid name outcome.Blocked)
       (world_left (left_all after r) r (blocked ++ (p.pid ∷ []))) after
   unfolding is_process

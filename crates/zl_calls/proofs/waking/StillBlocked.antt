@@ -7,13 +7,13 @@ use Rattle.zl_calls.proofs.Common.{state_value, subst, sym, takes_at, then_block
 use Rattle.zl_calls.proofs.Common.{◌==◌, ◌∙◌, ◌∷◌, ◌≡◌, ◌≤◌, ◌⊎◌}
 use Rattle.std.proofs.lemmas.List.{append-nil}
 use Rattle.zl_rights.specs.World.{Awaited as AwaitedValue}
-use Rattle.zl_code.proofs.Common.{Process as ProcessValue, IsSound as IsSoundWorld}
+use Rattle.zl_code.proofs.Common.{Process as ProcessValue, IsSound}
 use Rattle.zl_code.proofs.Frame.{act_leaves_others}
 use Rattle.zl_code.specs.Frame.{OthersMake, left_alone, woken as was_woken, was_started, was_killed, dropped}
 use Rattle.zl_code.specs.declared.history.Outcome.TheVariants as outcome
 use Rattle.zl_code.specs.declared.history.TraceItem.TheVariants as item
 use Rattle.zl_objects.specs.declared.awaited.Awaited.{Awaited}
-use Rattle.zl_calls.specs.Blocking.{ComesLast, FallsAsleep, awaited_by, awaited_in, tells_asleep}
+use Rattle.zl_calls.specs.Blocking.{ComesLast, FallsAsleep, awaited_found, awaited_in, tells_asleep}
 use Rattle.zl_calls.specs.declared.process.Process.{Process}
 use Rattle.zl_calls.proofs.calls.Answered.{IsWrite}
 use Rattle.zl_calls.proofs.objects.SameButWaits.{beside_same, beside_world, one_bare}
@@ -58,7 +58,8 @@ module _ (ps : List Process) (blocked : List ℕ) (are : AreBlocked ps blocked) 
 -- ---- the objects come to know
 
 module _ (ps : List Process) (pid : ℕ) (x : TraceItem) where
-  pub not_asleep : (r : Objects) → (tells_asleep x ≡ true → (a : Awaited) → awaited_by (get (map process_entry ps) pid) ≡ Some a → ⊥) → FallsAsleep ps pid x r r
+  pub not_asleep : (r : Objects) → (tells_asleep x ≡ true → (a : Awaited) → awaited_found (get (map process_entry ps) pid) ≡ Some a → ⊥)
+      → FallsAsleep ps pid x r r
   not_asleep r none = record {
     beside = beside_same r;
     waits = refl;
@@ -69,7 +70,7 @@ module _ (ps : List Process) (pid : ℕ) (x : TraceItem) where
     last = λ told a is. absurd (none told a is);
   }
 
-  pub known_asleep : (r r2 : Objects) (a : Awaited) → awaited_by (get (map process_entry ps) pid) ≡ Some a → Seeks r2 pid a
+  pub known_asleep : (r r2 : Objects) (a : Awaited) → awaited_found (get (map process_entry ps) pid) ≡ Some a → Seeks r2 pid a
       → ((q : ℕ) (b : Awaited) → Seeks r q b → Seeks r2 q b)
       → ComesLast pid r r2 a → AreSameButSleepers (knowing r (koid_of a)) r2 → tells_asleep x ≡ true → FallsAsleep ps pid x r r2
   known_asleep r r2 a awaited there others order same told = record {
@@ -132,17 +133,17 @@ then_other : (pid k : ℕ) (apart : (pid == k) ≡ false) (x : TraceItem) (block
 then_other pid k apart (item.Call at call outcome.Blocked) blocked = times-behind pid k apart blocked
 then_other pid k apart _ blocked = refl
 
-module _ (lib : Library) (ps ps2 : List Process) (r r1 r2 : Objects) (b b2 : List ℕ) (pid : ℕ) (x : TraceItem) (sound : IsSoundWorld (world_blocked ps r b))
+module _ (lib : Library) (ps ps2 : List Process) (r r1 r2 : Objects) (b b2 : List ℕ) (pid : ℕ) (x : TraceItem) (sound : IsSound (world_blocked ps r b))
     (does : DoesNext lib (world_blocked ps r b) pid x (world_left ps2 r1 (then_blocked pid x b2))) (before : AreBlocked ps b)
     (after : AreBlocked ps2 (then_blocked pid x b2))
     (left : AreLeft b b2) (sought : AreSought ps r) (others : (k : ℕ) (a : Awaited) → Seeks r k a → Seeks r2 k a)
-    (itself : tells_asleep x ≡ true → (a : Awaited) → awaited_by (get (map process_entry ps2) pid) ≡ Some a → Seeks r2 pid a) where
+    (itself : tells_asleep x ≡ true → (a : Awaited) → awaited_found (get (map process_entry ps2) pid) ≡ Some a → Seeks r2 pid a) where
   -- it is ready before, and so not among the blocked
   not_listed : ◌≡◌ {A = ℕ} (times pid b) 0
   not_listed = before.once pid ∙ rw (does.acted.is_there, does.acted.is_ready) refl
 
   -- where the item tells that it blocked it waits for something
-  told_awaits : tells_asleep x ≡ true → (a : Awaited) × (awaited_by (get (map process_entry ps2) pid) ≡ Some a)
+  told_awaits : tells_asleep x ≡ true → (a : Awaited) × (awaited_found (get (map process_entry ps2) pid) ≡ Some a)
   told_awaits told = by_process (get (map process_entry ps2) pid) (is_there ps2 (then_blocked pid x b2) after pid
       (let last : ◌≡◌ {A = ℕ} (times pid (then_blocked pid x b2)) 1 =
       ap (times pid) (then_last pid x b2 told) ∙ times-last pid b2 (none_left) in omega (arith, last)))
@@ -154,7 +155,7 @@ module _ (lib : Library) (ps ps2 : List Process) (r r1 r2 : Objects) (b b2 : Lis
       by_state (Blocked a ds) h = (awaited_of a, refl)
       by_state _ h = absurd (false≢true h)
 
-      by_process : (o : Option ProcessValue) → IsTrue (state_passes is_blocked o) → (a : Awaited) × (awaited_by o ≡ Some a)
+      by_process : (o : Option ProcessValue) → IsTrue (state_passes is_blocked o) → (a : Awaited) × (awaited_found o ≡ Some a)
       by_process None h = absurd (false≢true h)
       by_process (Some p) h = by_state p.state h
 
@@ -244,7 +245,7 @@ module _ (lib : Library) (ps ps2 : List Process) (r r1 r2 : Objects) (b b2 : Lis
             | inr nowhere ↦ nowhere
           ]
 
-      pub told_order : tells_asleep x ≡ true → (a : Awaited) → awaited_by (get (map process_entry ps2) pid) ≡ Some a → IsUnlisted pid a r.sleepers
+      pub told_order : tells_asleep x ≡ true → (a : Awaited) → awaited_found (get (map process_entry ps2) pid) ≡ Some a → IsUnlisted pid a r.sleepers
           → (sleepers2 : List Sleeper) → ListsLast pid a r.sleepers sleepers2
           → filter (takes_at ps2 port) (listed_for sleepers2 port) ≡ filter (takes_at ps2 port) (then_blocked pid x b2)
       told_order told a is unlisted sleepers2 last = elim (cases_Bool (is_for port a)) as
@@ -265,11 +266,11 @@ module _ (lib : Library) (ps ps2 : List Process) (r r1 r2 : Objects) (b b2 : Lis
 
   -- of those that are listed for packets of a port those that are blocked there stand in this order
   pub acted_ordered : AreOrdered ps r b → (tells_asleep x ≡ false → KeepSleepers r r2)
-      → (tells_asleep x ≡ true → (a : Awaited) → awaited_by (get (map process_entry ps2) pid) ≡ Some a → ComesLast pid r r2 a)
+      → (tells_asleep x ≡ true → (a : Awaited) → awaited_found (get (map process_entry ps2) pid) ≡ Some a → ComesLast pid r r2 a)
       → AreOrdered ps2 r2 (then_blocked pid x b2)
   acted_ordered ordered same last = by_test (cases_Bool (tells_asleep x))
     where
-      by_order : tells_asleep x ≡ true → (a : Awaited) → awaited_by (get (map process_entry ps2) pid) ≡ Some a → ComesLast pid r r2 a → AreOrdered ps r b
+      by_order : tells_asleep x ≡ true → (a : Awaited) → awaited_found (get (map process_entry ps2) pid) ≡ Some a → ComesLast pid r r2 a → AreOrdered ps r b
           → AreOrdered ps2 r2 (then_blocked pid x b2)
       by_order told a is (inl crowded) o = inl crowded
       by_order told a is (inr order) (inl crowded) = inl (order.0 ∙ crowded)

@@ -2,13 +2,13 @@
 use Rattle.zl_calls.proofs.Common.{Agrees, Blocked, Bool, IsConsistent, IsTrue, KeepSleepers, List, Map, None, Objects, Option, Packet, PacketAt, PortBody}
 use Rattle.zl_calls.proofs.Common.{Ready, SignalOf, Some, WakesOne, [], answered, ap, at_port, awake, body_packed, body_value, cases_Bool, changed_port}
 use Rattle.zl_calls.proofs.Common.{changing_port, destinations_of, drop, eqb-true, false, false≢true, filter, get, get-put, get-update, get_or, get_seen}
-use Rattle.zl_calls.proofs.Common.{given_awake, has_ended, if◌then◌else◌, inl, inr, is_blocked, is_process, is_some}
-use Rattle.zl_calls.proofs.Common.{is_sorted, is_sorted-update, lives, made_ready, map, meets, nat_cmp, not, object_entry, object_value}
-use Rattle.zl_calls.proofs.Common.{option_map, packet_taken, packet_values, packets_in, packets_of, passes, position, process_entry, process_value, put, refl}
-use Rattle.zl_calls.proofs.Common.{runs, same_map, set, signals_at, slice_get, sorted_put, state_value, sym, then_some, true, update, without_front}
-use Rattle.zl_calls.proofs.Common.{without_taken, woken, woken_at_port, woken_by, woken_from, world_blocked, world_value, ℕ, ◌==◌, ◌∙◌, ◌∷◌, ◌≡◌, ◌⊎◌}
-use Rattle.zl_code.proofs.Common.{Process as ProcessValue, Body as BodyValue, Object as ObjectValue, State as StateValue}
-use Rattle.zl_objects.specs.declared.object.Object.{Object as OwnObject}
+use Rattle.zl_calls.proofs.Common.{given_awake, has_ended, if◌then◌else◌, inl, inr, is_blocked, is_process, is_some, is_sorted, is_sorted-update, lives}
+use Rattle.zl_calls.proofs.Common.{made_ready, map, meets, nat_cmp, not, object_entry, object_value, option_map, packet_taken, packet_values, packets_found}
+use Rattle.zl_calls.proofs.Common.{packets_of, passes, position, process_entry, process_value, put, refl, runs, same_map, set, signals_at, slice_get}
+use Rattle.zl_calls.proofs.Common.{sorted_put, state_value, sym, then_some, true, update, without_front, without_taken, woken, woken_at_port, woken_by}
+use Rattle.zl_calls.proofs.Common.{woken_from, world_blocked, world_value, ℕ, ◌==◌, ◌∙◌, ◌∷◌, ◌≡◌, ◌⊎◌}
+use Rattle.zl_code.proofs.Common.{Process as ProcessValue, Body as BodyValue, Object as ObjectValue, State}
+use Rattle.zl_objects.specs.declared.object.Object.{Object}
 use Rattle.zl_objects.specs.declared.object.Body.{Body}
 use Rattle.zl_objects.specs.declared.object.Body.TheVariants as body
 use Rattle.zl_calls.specs.declared.process.State.TheVariants as state
@@ -43,7 +43,7 @@ update_fixed {X} (e ∷ m) k f fixed = elim (cases_Bool (e.0 == k)) as (λ _. up
 ]
 
 -- what is seen of an object without its first packet
-seen_taken : (o : OwnObject) (b : Body) → o.body ≡ b → object_value (at_port without_front o) ≡ packet_taken (object_value o)
+seen_taken : (o : Object) (b : Body) → o.body ≡ b → object_value (at_port without_front o) ≡ packet_taken (object_value o)
 seen_taken o (body.Port q) is = rw is refl
 seen_taken o _ is = rw is refl
 
@@ -51,7 +51,7 @@ nil-cons : {x : Packet} {xs : List Packet} → [] ≡ x ∷ xs → ⊥
 nil-cons e = cc
 
 -- a state that wakes passes the same tests of life as before
-lives_on : (s : StateValue) → is_blocked s ≡ true → (runs s ≡ true) × (lives s ≡ true) × (has_ended s ≡ false)
+lives_on : (s : State) → is_blocked s ≡ true → (runs s ≡ true) × (lives s ≡ true) × (has_ended s ≡ false)
 lives_on (Blocked awaited ds) h = (refl, refl, refl)
 lives_on _ h = absurd (false≢true h)
 
@@ -103,7 +103,7 @@ module _ (ps : List Process) (r : Objects) (consistent : IsConsistent ps r) (pid
       ready_entries = rw (← key)
           (after_is write ∙ put_there (map process_entry ps) p.pid (process_value p) (λ _. process_value p2) consistent.processes_in_order write.there)
 
-      tests_alike : (test : StateValue → Bool) → test (state_value p.state) ≡ test Ready → (k : ℕ)
+      tests_alike : (test : State → Bool) → test (state_value p.state) ≡ test Ready → (k : ℕ)
           → is_process (world_value after r2) test k ≡ is_process (world_value ps r2) test k
       tests_alike test alike k = alike_states write test (ap (λ (q : Process). test (state_value q.state)) is ∙ sym alike) r2 r2 k
 
@@ -131,7 +131,7 @@ module _ (ps : List Process) (r : Objects) (consistent : IsConsistent ps r) (pid
     by_signal koid mask ds in_state true holds is objects =
         let so : p2 ≡ record p { state = state.Ready; cpu = answered p.cpu ds (0 ∷ signals_at r.objects koid ∷ []) } =
         is
-        ∙ ap (λ (s : StateValue). record p { state = state.Ready; cpu = answered p.cpu (destinations_of s) (0 ∷ signals_at r.objects koid ∷ []) }) in_state in
+        ∙ ap (λ (s : State). record p { state = state.Ready; cpu = answered p.cpu (destinations_of s) (0 ∷ signals_at r.objects koid ∷ []) }) in_state in
         rw objects (gets_awake p2 r (ap (λ (q : Process). q.pid) so) ds (signals_at r.objects koid ∷ []) so (ap is_blocked in_state)
         consistent
         (λ blocked. woken_is blocked ∙ rw (in_state, active_there ps r consistent blocked koid, holds) refl))
@@ -140,23 +140,23 @@ module _ (ps : List Process) (r : Objects) (consistent : IsConsistent ps r) (pid
         (λ blocked. woken_is blocked ∙ rw (in_state, active_there ps r consistent blocked koid, holds) refl)
 
     module _ (port : ℕ) (ds : List ℕ) (in_state : state_value p.state ≡ Blocked (PacketAt port) ds) where
-      seen_there : (blocked : List ℕ) (o : Option OwnObject) → get r.objects port ≡ o
+      seen_there : (blocked : List ℕ) (o : Option Object) → get r.objects port ≡ o
           → woken (world_blocked ps r blocked) pid ≡ woken_at_port (world_blocked ps r blocked) pid (process_value p) port ds (option_map object_value o)
       seen_there blocked o at = woken_is blocked ∙ rw (in_state, get_seen r.objects port, at) refl
 
-      no_packet : (o : Option OwnObject) → get r.objects port ≡ o → packets_in o ≡ [] → changing_port r port without_front ≡ r
+      no_packet : (o : Option Object) → get r.objects port ≡ o → packets_found o ≡ [] → changing_port r port without_front ≡ r
       no_packet o at none =
-          ap (λ (m : Map OwnObject). record r { objects = m })
-          (update_fixed r.objects port (at_port without_front) (λ x there2. same_object x (ap packets_in (sym there2 ∙ at) ∙ none)))
+          ap (λ (m : Map Object). record r { objects = m })
+          (update_fixed r.objects port (at_port without_front) (λ x there2. same_object x (ap packets_found (sym there2 ∙ at) ∙ none)))
         where
-          same_object : (x : OwnObject) → packets_of x.body ≡ [] → at_port without_front x ≡ x
+          same_object : (x : Object) → packets_of x.body ≡ [] → at_port without_front x ≡ x
           same_object x h = ap (λ (b : Body). record x { body = b }) (by_body x.body h)
             where
               by_body : (b : Body) → packets_of b ≡ [] → changed_port without_front b ≡ b
               by_body (body.Port q) h = ap (λ (xs : List Packet). body.Port (record q { packets = xs })) (rw h refl)
               by_body _ h = refl
 
-      asleep_at : (o : Option OwnObject) → get r.objects port ≡ o → packets_in o ≡ [] → (blocked : List ℕ)
+      asleep_at : (o : Option Object) → get r.objects port ≡ o → packets_found o ≡ [] → (blocked : List ℕ)
           → woken (world_blocked ps r blocked) pid ≡ world_blocked ps r blocked
       asleep_at None at none blocked = seen_there blocked None at
       asleep_at (Some o) at none blocked = seen_there blocked (Some o) at ∙ by_body o.body none
@@ -166,7 +166,7 @@ module _ (ps : List Process) (r : Objects) (consistent : IsConsistent ps r) (pid
           by_body (body.Port q) h = rw h refl
           by_body _ h = refl
 
-      taken_at : (o : OwnObject) (x : Packet) (rest : List Packet) → get r.objects port ≡ Some o → packets_of o.body ≡ x ∷ rest → (blocked : List ℕ)
+      taken_at : (o : Object) (x : Packet) (rest : List Packet) → get r.objects port ≡ Some o → packets_of o.body ≡ x ∷ rest → (blocked : List ℕ)
           → woken (world_blocked ps r blocked) pid
           ≡ made_ready (world_blocked ps (changing_port r port without_front) blocked) pid (process_value p) ds (0 ∷ packet_values x)
       taken_at o x rest at first blocked = seen_there blocked (Some o) at ∙ by_body o.body refl first
@@ -189,24 +189,24 @@ module _ (ps : List Process) (r : Objects) (consistent : IsConsistent ps r) (pid
           by_body (body.Job own) is h = absurd (nil-cons h)
           by_body _ is h = absurd (nil-cons h)
 
-      by_packet : (o : Option OwnObject) → get r.objects port ≡ o → (xs : List Packet) → packets_in o ≡ xs
+      by_packet : (o : Option Object) → get r.objects port ≡ o → (xs : List Packet) → packets_found o ≡ xs
           → p2 ≡ awake (option_map packet_values (slice_get xs 0)) p → r2 ≡ changing_port r port without_front
           → WakesOne pid (is_some (option_map packet_values (slice_get xs 0))) ps r (set ps place p2) r2
       by_packet o at [] first is objects = stays_asleep p2 r2 (ap (λ (q : Process). q.pid) is) is (objects ∙ no_packet o at first) (asleep_at o at first)
       by_packet None at (x ∷ rest) first is objects = absurd (nil-cons first)
       by_packet (Some o) at (x ∷ rest) first is objects =
           let so : p2 ≡ record p { state = state.Ready; cpu = answered p.cpu ds (0 ∷ packet_values x) } =
-          is ∙ ap (λ (s : StateValue). record p { state = state.Ready; cpu = answered p.cpu (destinations_of s) (0 ∷ packet_values x) }) in_state in
+          is ∙ ap (λ (s : State). record p { state = state.Ready; cpu = answered p.cpu (destinations_of s) (0 ∷ packet_values x) }) in_state in
           rw objects (gets_awake p2 (changing_port r port without_front) (ap (λ (q : Process). q.pid) so) ds (packet_values x) so (ap is_blocked in_state)
           (packed_consistent without_front ps r port consistent)
           (taken_at o x rest at first))
 
     -- whatever it is in
-    by_state : (s : StateValue) → state_value p.state ≡ s → p2 ≡ awake (given_awake s r) p → r2 ≡ without_taken s r
+    by_state : (s : State) → state_value p.state ≡ s → p2 ≡ awake (given_awake s r) p → r2 ≡ without_taken s r
         → WakesOne pid (is_some (given_awake s r)) ps r (set ps place p2) r2
     by_state (Blocked (SignalOf koid mask) ds) in_state is objects = by_signal koid mask ds in_state (meets (signals_at r.objects koid) mask) refl is objects
     by_state (Blocked (PacketAt port) ds) in_state is objects =
-        by_packet port ds in_state (get r.objects port) refl (packets_in (get r.objects port)) refl is objects
+        by_packet port ds in_state (get r.objects port) refl (packets_found (get r.objects port)) refl is objects
     by_state _ in_state is objects = stays_asleep p2 r2 (ap (λ (q : Process). q.pid) is) is objects (λ blocked. woken_is blocked ∙ rw in_state refl)
 
     pub wakes_one : p2 ≡ awake (given_awake (state_value p.state) r) p → r2 ≡ without_taken (state_value p.state) r
@@ -219,7 +219,7 @@ unfolding woken
 wakes_none ps r pid consistent missing = record { world = λ blocked. rw missing refl; list = λ blocked are. are; consistent = consistent; held = refl }
 
 -- it takes a packet at most, so who may be blocked is as before
-pub taken_asleep : (s : StateValue) (r r2 : Objects) → r2 ≡ without_taken s r → KeepSleepers r r2
+pub taken_asleep : (s : State) (r r2 : Objects) → r2 ≡ without_taken s r → KeepSleepers r r2
 taken_asleep (Blocked (PacketAt port) ds) r r2 is = (ap (λ (y : Objects). y.sleepers) is, ap (λ (y : Objects). y.crowded) is)
 taken_asleep (Blocked (SignalOf koid mask) ds) r r2 is = (ap (λ (y : Objects). y.sleepers) is, ap (λ (y : Objects). y.crowded) is)
 taken_asleep _ r r2 is = (ap (λ (y : Objects). y.sleepers) is, ap (λ (y : Objects). y.crowded) is)

@@ -17,7 +17,7 @@ use Rattle.zl_calls.specs.declared.process.Process.{Process}
 use Rattle.zl_calls.specs.Registered.{KeepsListed}
 use Rattle.zl_calls.specs.World.{state_value}
 use Rattle.zl_objects.specs.Objects.{Objects}
-use Rattle.zl_objects.specs.Release.{Releases, koids_of}
+use Rattle.zl_objects.specs.Release.{Releases, koids_in}
 
 -- ---- refusals
 
@@ -63,7 +63,7 @@ taken_from t (h ∷ hs) = option_to_list (get t.entries h) ++ taken_from (withou
 -- the handles at these values closed
 pub record ClosesEach (hs : List ℕ) (t : Handles) (r : Objects) (t2 : Handles) (r2 : Objects) : Type 0 where
   pub table : t2 ≡ without_handles t hs
-  pub objects : Releases (koids_of (taken_from t hs)) [] r r2
+  pub objects : Releases (koids_in (taken_from t hs)) [] r r2
   pub listed : KeepsListed r r2
 
 -- a call was done; or else it was refused, and the handles at the values hs closed, which it takes however it is answered

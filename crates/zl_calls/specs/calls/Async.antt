@@ -14,9 +14,9 @@ use Rattle.zl_rights.specs.World.{Source}
 use Rattle.zl_port.specs.Packets.{is_from, without_packets}
 use Rattle.zl_table.specs.Table.{Handles}
 use Rattle.zl_objects.specs.declared.wait.Wait.{Wait}
-use Rattle.zl_objects.specs.Listed.{may_register, watching}
+use Rattle.zl_objects.specs.Listed.{may_register_here, watching}
 use Rattle.zl_objects.specs.Objects.{Objects}
-use Rattle.zl_objects.specs.Ports.{changing_port, packets_in}
+use Rattle.zl_objects.specs.Ports.{changing_port, packets_found}
 use Rattle.zl_calls.specs.calls.Answer.{Does, wants_memory, wants_nothing}
 use Rattle.zl_calls.specs.calls.Port.{port_at}
 use Rattle.zl_calls.specs.Registered.{EndsWaits}
@@ -28,7 +28,7 @@ abbrev pub async_refusal_of : Objects → (mask : ℕ) → Result Entry Status �
 async_refusal_of r mask (Err s) port = Some s
 async_refusal_of r mask (Ok e) (Err s) = Some s
 async_refusal_of r mask (Ok e) (Ok port) =
-    option_or (then_some (not (is_mask mask)) status.InvalidArgs) (then_some (not (may_register r)) status.NoResources)
+    option_or (then_some (not (is_mask mask)) status.InvalidArgs) (then_some (not (may_register_here r)) status.NoResources)
 
 -- the answer of wait_async other than OK
 abbrev pub async_refusal : Map Entry → Objects → (h port mask : ℕ) → Option Status
@@ -70,8 +70,8 @@ abbrev pub cancel_refusal_of : Objects → (pid source key : ℕ) → Result Ent
 cancel_refusal_of r pid source key (Err s) named = Some s
 cancel_refusal_of r pid source key (Ok port) (Err s) = Some s
 cancel_refusal_of r pid source key (Ok port) (Ok e) =
-    then_some (not (list_any (is_keyed pid source port.koid key) r.waits || list_any (is_from (source_of pid source e) key) (packets_in (get r.objects port.koid))))
-    status.NotFound
+    then_some (not (list_any (is_keyed pid source port.koid key) r.waits
+    || list_any (is_from (source_of pid source e) key) (packets_found (get r.objects port.koid)))) status.NotFound
 
 -- the answer of port_cancel other than OK
 abbrev pub cancel_refusal : Map Entry → Objects → (pid port source key : ℕ) → Option Status

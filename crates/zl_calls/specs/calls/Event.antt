@@ -15,7 +15,7 @@ use Rattle.zl_table.specs.Table.{Handles}
 use Rattle.zl_objects.specs.declared.object.Body.TheVariants as body
 use Rattle.zl_objects.specs.declared.object.Pair.TheVariants as pair
 use Rattle.zl_objects.specs.declared.object.Object.{Object}
-use Rattle.zl_objects.specs.Objects.{Objects, changing, peer_at}
+use Rattle.zl_objects.specs.Objects.{Objects, changing, peer_here}
 use Rattle.zl_calls.specs.calls.Answer.{Does, wants_nothing}
 use Rattle.zl_calls.specs.calls.Making.{MakeDoes, MakePairDoes}
 
@@ -77,7 +77,7 @@ abbrev pub peer_signal_refusal_of : Map Object → ℕ → ℕ → Result Entry 
 peer_signal_refusal_of objects clear set (Err s) = Some s
 peer_signal_refusal_of objects clear set (Ok end) =
     option_or (then_some (not (may_change_at end.kind clear set)) status.InvalidArgs)
-    (then_some (not (is_some (peer_at objects end.koid))) status.PeerClosed)
+    (then_some (not (is_some (peer_here objects end.koid))) status.PeerClosed)
 
 -- the answer of signal_peer other than OK
 abbrev pub peer_signal_refusal : Map Entry → Map Object → ℕ → ℕ → ℕ → Option Status
@@ -90,7 +90,7 @@ pub record SignalsPeer (t : Handles) (r : Objects) (value clear set : ℕ) (t2 :
   pub end : Entry
   pub is_end : looked_up t.entries value (kind.Channel ∷ kind.Eventpair ∷ []) SIGNAL_PEER ≡ Ok end
   pub peer : ℕ
-  pub is_peer : peer_at r.objects end.koid ≡ Some peer
+  pub is_peer : peer_here r.objects end.koid ≡ Some peer
   pub table : t2 ≡ t
   pub objects : r2 ≡ changing r peer clear set
 

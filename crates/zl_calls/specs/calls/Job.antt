@@ -14,7 +14,7 @@ use Rattle.zl_rights.specs.declared.status.Status.TheVariants as status
 use Rattle.zl_jobs.specs.Jobs.{Job}
 use Rattle.zl_jobs.specs.declared.job.JobFault.{JobFault}
 use Rattle.zl_jobs.specs.declared.job.JobFault.TheVariants as fault
-use Rattle.zl_objects.specs.Jobs.{has_job_below, has_process_below, is_dead, job_at, new_in, policy_answer, setting_policy}
+use Rattle.zl_objects.specs.Jobs.{has_job_below, has_process_below, is_dead_here, job_at, new_in, policy_answer, setting_policy}
 use Rattle.zl_objects.specs.Objects.{Objects}
 use Rattle.zl_objects.specs.declared.object.Body.TheVariants as body
 use Rattle.zl_objects.specs.declared.object.Object.{Object}
@@ -69,7 +69,7 @@ abbrev pub policy_refusal_of : Map Object → Option SettingValue → Result Ent
 policy_refusal_of objects s (Err f) = Some f
 policy_refusal_of objects None (Ok job) = Some status.InvalidArgs
 policy_refusal_of objects (Some s) (Ok job) =
-    option_or (then_some (is_dead (job_at objects job.koid) || has_child_at objects job.koid) status.BadState)
+    option_or (then_some (is_dead_here (job_at objects job.koid) || has_child_at objects job.koid) status.BadState)
     (result_err (policy_answer (job_at objects job.koid) s.condition s.action s.mode))
 
 -- the answer of job_set_policy other than OK

@@ -16,7 +16,7 @@ use Rattle.zl_code.specs.Waiting.{is_full}
 use Rattle.zl_table.specs.Table.{Handles}
 use Rattle.zl_objects.specs.declared.object.Object.{Object}
 use Rattle.zl_objects.specs.Objects.{Objects}
-use Rattle.zl_objects.specs.Ports.{changing_port, new_port, packets_in}
+use Rattle.zl_objects.specs.Ports.{changing_port, new_port, packets_found}
 use Rattle.zl_calls.specs.calls.Answer.{Action, Does, answers, told_by, wants_memory, wants_nothing}
 use Rattle.zl_calls.specs.calls.Making.{MakeDoes}
 
@@ -34,7 +34,7 @@ port_at entries value rights = looked_up entries value (kind.Port ∷ []) rights
 
 -- why a call on the port is refused that the look-up found: its fault, or the status where the packets pass the test
 abbrev pub refused_by : Map Object → (List Packet → Bool) → Status → Result Entry Status → Option Status
-refused_by objects test s (Ok e) = then_some (test (packets_in (get objects e.koid))) s
+refused_by objects test s (Ok e) = then_some (test (packets_found (get objects e.koid))) s
 refused_by objects test s (Err fault) = Some fault
 
 -- ---- port_queue
@@ -66,7 +66,7 @@ pub record TakesPacket (t : Handles) (r : Objects) (value : ℕ) (packet : Packe
   pub unrefused : poll_refusal t.entries r.objects value ≡ None
   pub port : Entry
   pub is_port : port_at t.entries value READ ≡ Ok port
-  pub first : slice_get (packets_in (get r.objects port.koid)) 0 ≡ Some packet
+  pub first : slice_get (packets_found (get r.objects port.koid)) 0 ≡ Some packet
   pub table : t2 ≡ t
   pub objects : r2 ≡ changing_port r port.koid without_front
 
@@ -88,5 +88,5 @@ PortWaitDoes value t r = Does (TakesPacket t r value) wants_nothing (result_err 
 pub record WaitsForPacket (value : ℕ) (t : Handles) (r : Objects) (awaited : Awaited) : Type 0 where
   pub port : Entry
   pub is_port : port_at t.entries value READ ≡ Ok port
-  pub none : slice_get (packets_in (get r.objects port.koid)) 0 ≡ None
+  pub none : slice_get (packets_found (get r.objects port.koid)) 0 ≡ None
   pub is_awaited : awaited ≡ PacketAt port.koid

@@ -16,7 +16,7 @@ use Rattle.zl_rights.specs.Numbers.{READ, bits, kind_number}
 use Rattle.zl_rights.specs.World.{Message}
 use Rattle.zl_table.specs.Table.{Handles, Inserts}
 use Rattle.zl_objects.specs.declared.object.Object.{Object}
-use Rattle.zl_objects.specs.Objects.{Objects, peer_at, queue_in, receiving}
+use Rattle.zl_objects.specs.Objects.{Objects, peer_here, queue_found, receiving}
 use Rattle.zl_calls.specs.declared.calls.channel.reading.Received.{Received}
 use Rattle.zl_calls.specs.declared.calls.channel.reading.ReadFault.{ReadFault}
 use Rattle.zl_calls.specs.declared.calls.channel.reading.ReadFault.TheVariants as fault
@@ -58,7 +58,7 @@ front_in count has_peer room places k (m ∷ ms) =
 abbrev pub front_by : Map Entry → Map Object → (room places : ℕ) → Result Entry Status → Result ℕ ReadFault
 front_by entries objects room places (Err s) = Err (fault.Refused s)
 front_by entries objects room places (Ok end) =
-    front_in (length entries) (is_some (peer_at objects end.koid)) room places end.koid (queue_in (get objects end.koid))
+    front_in (length entries) (is_some (peer_here objects end.koid)) room places end.koid (queue_found (get objects end.koid))
 
 -- the end at the value channel where the first message there can be read, or why it can't
 abbrev pub front_at : Map Entry → Map Object → (channel room places : ℕ) → Result ℕ ReadFault
@@ -76,7 +76,7 @@ IsFaultBy objects (Ok end) (fault.TooSmall bytes handles) = ⊥
 pub record ReadsMessage (t : Handles) (r : Objects) (channel room places : ℕ) (received : Received) (t2 : Handles) (r2 : Objects) : Type 0 where
   pub end : ℕ
   pub is_end : front_at t.entries r.objects channel room places ≡ Ok end
-  pub first : slice_get (queue_in (get r.objects end)) 0 ≡ Some received.message
+  pub first : slice_get (queue_found (get r.objects end)) 0 ≡ Some received.message
   pub inserts : InsertsEach t received.message.handles received.values.items t2
   pub objects : r2 ≡ receiving r end
 

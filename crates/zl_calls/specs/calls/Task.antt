@@ -22,7 +22,7 @@ use Rattle.zl_rights.specs.declared.status.Status.{Status}
 use Rattle.zl_rights.specs.declared.status.Status.TheVariants as status
 use Rattle.zl_rights.specs.Values.{new_free}
 use Rattle.zl_table.specs.Table.{Inserts}
-use Rattle.zl_objects.specs.Jobs.{action_of, is_dead, is_within, job_at, killing}
+use Rattle.zl_objects.specs.Jobs.{action_here, is_dead_here, is_within_here, job_at, killing}
 use Rattle.zl_objects.specs.Objects.{Objects, starting}
 use Rattle.zl_objects.specs.Release.{Releases, all_koids}
 use Rattle.zl_objects.specs.declared.object.Body.TheVariants as body
@@ -101,8 +101,8 @@ abbrev pub create_refusal_of : Library → Map Entry → Objects → (program : 
 create_refusal_of lib entries r program (Err s) = Some s
 create_refusal_of lib entries r program (Ok job) =
     option_or (then_some (not (is_some (slice_get lib program))) status.InvalidArgs)
-    (option_or (then_some (is_dead (job_at r.objects job.koid)) status.BadState)
-    (option_or (then_some (needs_more (action_of (job_at r.objects job.koid)) (slice_get lib program)) status.NotSupported)
+    (option_or (then_some (is_dead_here (job_at r.objects job.koid)) status.BadState)
+    (option_or (then_some (needs_more (action_here (job_at r.objects job.koid)) (slice_get lib program)) status.NotSupported)
     (room_refusal entries r.next_koid)))
 
 -- the answer of process_create other than OK
@@ -230,7 +230,7 @@ ended_if killed p = if killed then record p { state = state.Ended KILLED } else 
 
 -- a process that lives has ended, if it is the task or stands below it, and keeps its handles for now
 abbrev pub ended_within : Objects → ℕ → Process → Process
-ended_within r task p = ended_if (lives (state_value p.state) && is_within r.objects task p.pid) p
+ended_within r task p = ended_if (lives (state_value p.state) && is_within_here r.objects task p.pid) p
 
 -- the handles of a process that is over closed, and its waits ended; of one that lives nothing changed
 pub data ClosesEnded : Process → Objects → Process → Objects → Type 0 where

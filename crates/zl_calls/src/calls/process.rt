@@ -8,7 +8,7 @@ ghost use Rattle.zl_code.specs.Jobs.{is_allowing, is_declared, is_only_start, mi
 ghost use Rattle.zl_code.specs.Starting.{cpu_given};
 ghost use Rattle.zl_rights.specs.LookUp.{looked_up};
 ghost use Rattle.zl_rights.specs.Numbers.{MANAGE_PROCESS, TRANSFER, WRITE};
-ghost use Rattle.zl_objects.specs.Jobs.{action_of, job_at};
+ghost use Rattle.zl_objects.specs.Jobs.{action_here, job_at};
 ghost use Rattle.zl_objects.specs.Objects.{starting};
 ghost use Rattle.zl_interp.specs.Common.{program_value, started_cpu};
 ghost use Rattle.zl_calls.specs.Registered.{EndsOwn};
@@ -171,7 +171,7 @@ fn find_job<'a, const TESTED: bool>(
 /// Whether the program was checked, and declares a need that the policy of the job doesn't allow.
 pub fn lacks_need(objects: &Objects, job: Koid, program: &Program) -> bool
     ensures { result ≡ needs_more
-        (action_of (job_at objects.now.objects job)) (Some (program_value program.now)) }
+        (action_here (job_at objects.now.objects job)) (Some (program_value program.now)) }
 {
     let image = program.image();
     // Its clauses are the image's invariant, by which needs are among the five.
@@ -184,7 +184,7 @@ pub fn lacks_need(objects: &Objects, job: Koid, program: &Program) -> bool
 
 /// Whether the policy of the job allows what the condition stands for.
 fn allows(objects: &Objects, job: Koid, condition: Condition) -> bool
-    ensures { result ≡ is_allowing (action_of (job_at objects.now.objects job) condition) }
+    ensures { result ≡ is_allowing (action_here (job_at objects.now.objects job) condition) }
 {
     matches!(objects.action(job, condition), Action::Allow)
 }

@@ -8,7 +8,7 @@ ghost use Rattle.zl_code.specs.Asked.{triples_from};
 ghost use Rattle.zl_code.specs.Effects.{told_of};
 ghost use Rattle.zl_code.specs.Request.{site_of};
 ghost use Rattle.zl_code.specs.declared.history.CallName.TheVariants as name;
-ghost use Rattle.zl_objects.specs.Objects.{peer_at};
+ghost use Rattle.zl_objects.specs.Objects.{peer_here};
 ghost use Rattle.zl_calls.specs.Acted.{Acted};
 ghost use Rattle.zl_calls.specs.Sure.{IsFaultless};
 ghost use Rattle.zl_calls.specs.calls.Answer.{wants_memory};
@@ -109,7 +109,7 @@ fn find_front<const TESTED: bool>(
 
 /// The answer where no message is there: one can come while the peer is there.
 fn why_empty(objects: &Objects, end: Koid) -> Status
-    ensures { result ≡ (if is_some (peer_at objects.now.objects end)
+    ensures { result ≡ (if is_some (peer_here objects.now.objects end)
         then Status.ShouldWait else Status.PeerClosed) }
 {
     if objects.peer(end).is_some() {

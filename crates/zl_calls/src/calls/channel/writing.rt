@@ -10,7 +10,7 @@ ghost use Rattle.zl_channel.specs.Queue.{MOST_BYTES, MOST_HANDLES};
 ghost use Rattle.zl_code.specs.Request.{site_of};
 ghost use Rattle.zl_code.specs.declared.history.CallName.TheVariants as name;
 ghost use Rattle.zl_objects.specs.Objects.{is_channel_at, sending};
-ghost use Rattle.zl_objects.specs.Release.{Releases, koids_of};
+ghost use Rattle.zl_objects.specs.Release.{Releases, koids_in};
 ghost use Rattle.zl_calls.specs.Acted.{Acted};
 ghost use Rattle.zl_calls.specs.calls.Answer.{IsRefusedBy, taken_from, wants_memory, without_handle, without_handles};
 ghost use Rattle.zl_calls.specs.calls.Channel.{ChanWriteDoes, IsPeerOf, IsReady, fault_of, list_refusal, write_refusal};
@@ -202,7 +202,7 @@ fn send(
         (record { bytes = letter.bytes.items; handles = taken_from table.old handles.now })) }
     ensures wants { IfErr result (λ refused. refused ≡ Status.NoMemory) }
     ensures released { OnErr result
-        (Releases (koids_of (taken_from table.old handles.now)) [] objects.old objects.new) }
+        (Releases (koids_in (taken_from table.old handles.now)) [] objects.old objects.new) }
     ensures listed { OnErr result (KeepsListed objects.old objects.new) }
     ensures table { table.new ≡ without_handles table.old handles.now }
 {
@@ -252,7 +252,7 @@ fn take_into(table: &mut Table, taken: &mut Handles, value: u64)
 
 /// The handles have gone, and what isn't held any more.
 fn release_each(objects: &mut Objects, handles: &[Entry])
-    ensures releases { Releases (koids_of handles.now) [] objects.old objects.new }
+    ensures releases { Releases (koids_in handles.now) [] objects.old objects.new }
     ensures listed { KeepsListed objects.old objects.new }
 {
     for handle in handles {

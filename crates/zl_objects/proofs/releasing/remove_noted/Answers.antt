@@ -1,4 +1,4 @@
-use Rattle.zl_objects.proofs.Common.{LetsGo, None, Option, [], ap, arith, ending_waits, keeper_of, length, named_in, nat_lt, option_to_list, queue_of, refl}
+use Rattle.zl_objects.proofs.Common.{LetsGo, None, Option, [], ap, arith, ending_waits, keeper_of, length, named_in, nat_lt, option_to_list, queue_held, refl}
 use Rattle.zl_objects.proofs.Common.{reserved_of, sorted_without, sym, unkept_at, without, without_ended, ℕ, ◌++◌, ◌+◌, ◌∙◌, ◌∷◌, ◌≡◌}
 use Rattle.std.specs.Vec.{vec_capacity}
 use Rattle.zl_objects.proofs.Budget.{IsTaken, fewer_ending, kept_went, less_ending, less_noted, none_left_at, none_taken, one_taken}
@@ -66,7 +66,7 @@ returns c =
     (c.take_unkept.ensures.left ∙ was.left) c.has_reserved-reserved.ensures in
     let noted : c.note_keeper.new.dying.items ≡ c.args.dying.now.items ++ option_to_list (keeper_of c.in-Some.gone.body) =
     c.note_keeper.ensures.noted ∙ ap (λ (q : Option ℕ). c.args.dying.now.items ++ option_to_list q) c.keeper-keeper.ensures in
-    let went : LetsGo (named_in (queue_of c.in-Some.gone.body)) (ending_waits c.args.koid c.in-Some.gone (without m c.args.koid))
+    let went : LetsGo (named_in (queue_held c.in-Some.gone.body)) (ending_waits c.args.koid c.in-Some.gone (without m c.args.koid))
     (c.args.dying.now.items ++ option_to_list (keeper_of c.in-Some.gone.body)) c.let_go_body.new.by_koid.entries c.let_go_body.new.dying.items =
     rw (ended, noted) at c.let_go_body.ensures.goes in
     let once : length (without m c.args.koid) + 1 ≡ length m =
@@ -75,15 +75,15 @@ returns c =
     let goes : LetsGo [] m (c.args.dying.now.items ++ c.args.koid ∷ []) c.let_go_body.new.by_koid.entries c.let_go_body.new.dying.items =
     unkept_went m c.args.dying.now.items c.args.koid c.in-Some.gone c.let_go_body.new.by_koid.entries c.let_go_body.new.dying.items was.there was.unkept
     once went in
-    let cascades = cascades_of (named_in (queue_of c.in-Some.gone.body)) _ _ _ _ went in
+    let cascades = cascades_of (named_in (queue_held c.in-Some.gone.body)) _ _ _ _ went in
     let unlisted : c.end_waits.new.waits.entries.items ≡ without_ended c.args.koid (nat_lt 0 (reserved_of c.in-Some.gone.body))
     c.args.waits.now.entries.items =
     c.end_waits.ensures.entries ∙ ap (λ b. without_ended c.args.koid b c.args.waits.now.entries.items) c.has_reserved-reserved.ensures in
     let still = rw ended at c.let_go_body.ensures.still.waits in
     let places = goes.places c.requires.registered.places in
     record {
-      indexed = left_indexed (named_in (queue_of c.in-Some.gone.body)) (gone_indexed c.args.koid c.in-Some.gone c.requires.indexed c.remove.ensures ended)
-          (cascades_of (named_in (queue_of c.in-Some.gone.body)) _ _ _ _ c.let_go_body.ensures.goes);
+      indexed = left_indexed (named_in (queue_held c.in-Some.gone.body)) (gone_indexed c.args.koid c.in-Some.gone c.requires.indexed c.remove.ensures ended)
+          (cascades_of (named_in (queue_held c.in-Some.gone.body)) _ _ _ _ c.let_go_body.ensures.goes);
       registered = gone_registered m c.let_go_body.new.by_koid.entries c.args.waits.now.entries.items c.end_waits.new.waits.entries.items c.args.koid
           c.in-Some.gone c.requires.registered unlisted still cascades places;
       goes = goes;
@@ -92,7 +92,7 @@ returns c =
         less_ending m c.args.dying.now.items c.args.koid c.in-Some.gone,
         went.cheap,
         fewer_ending m c.args.dying.now.items c.args.koid c.in-Some.gone was.there,
-        cascaded_shorter (named_in (queue_of c.in-Some.gone.body)) _ c.let_go_body.new.by_koid.entries cascades,
+        cascaded_shorter (named_in (queue_held c.in-Some.gone.body)) _ c.let_go_body.new.by_koid.entries cascades,
       );
       calm = λ next sleepers calm. c.let_go_body.ensures.still.calm _ next sleepers (gone_calm m c.end_waits.new.by_koid.entries
           c.args.koid c.in-Some.gone c.requires.indexed was.there ended c.mark_watched.ensures.more c.mark_watched-2.ensures.more

@@ -1,4 +1,4 @@
-use Rattle.zl_calls.proofs.Common.{All-nil, AreBlocked, IsBoot, IsStarted, arith, boot_awake, boot_covered, map, sym, world_blocked, ◌∙◌}
+use Rattle.zl_calls.proofs.Common.{All-nil, AreBlocked, HasBegun, IsBoot, arith, boot_awake, boot_covered, map, sym, world_blocked, ◌∙◌}
 use Rattle.zl_calls.specs.World.{free_entry}
 use Rattle.zl_code.proofs.ProgramsKept.{boot_programs}
 use Rattle.zl_calls.proofs.boot.BootBlocked.{booted_boots, booted_sound, booted_world, none_blocked}
@@ -18,7 +18,7 @@ are c = none_blocked c.args.library c.args.boot.now.statements.items c.in_ok-pro
     c.in_ok-processes.ensures.ok ((c.in-Ok.ensures {u = tt}).items)
 
 pub invariant_of-result : goal.invariant_of-result
-invariant_of-result c = record { in_order = c.in_ok-processes.ensures.consistent.processes_in_order; started = All-nil IsStarted }
+invariant_of-result c = record { in_order = c.in_ok-processes.ensures.consistent.processes_in_order; started = All-nil HasBegun }
 
 pub invariant_of-result-2 : goal.invariant_of-result-2
 invariant_of-result-2 c = record {

@@ -1,4 +1,4 @@
-use Rattle.zl_objects.proofs.Common.{Port, ap, at_port, holds, meets, refl, rules, sym, vec_capacity, wait_at, with_packet, without_place, ◌∙◌}
+use Rattle.zl_objects.proofs.Common.{Port, ap, at_port, meets, refl, rules, sym, vec_capacity, wait_at, watch_holds, with_packet, without_place, ◌∙◌}
 use Rattle.std.proofs.Common.{option_map}
 use Rattle.zl_objects.proofs.CalmChanges.{keeps_port, unless_wanted, unwatched_calm, watched_after, written_calm}
 use Rattle.zl_objects.proofs.Index.{port_indexed, unwatched_indexed}
@@ -13,15 +13,15 @@ invariant_of-self c =
     record {
       kept = none_out_kept c.args.koid (λ x. meets c.args.active.0 x.mask) c.self.invariant.kept c.take_holding.ensures.rest
           (sym c.take_holding.ensures.earliest ∙ c.in_err-wait.was {u = tt});
-      calm = unwatched_calm (holds c.args.active.0) c.self.inside.by_koid.entries
+      calm = unwatched_calm (watch_holds c.args.active.0) c.self.inside.by_koid.entries
           c.take_holding.new.by_koid.entries c.args.koid c.take_holding.ensures.rest c.self.invariant.calm;
-      indexed = unwatched_indexed (holds c.args.active.0) c.args.koid c.self.invariant.indexed c.take_holding.ensures.rest;
+      indexed = unwatched_indexed (watch_holds c.args.active.0) c.args.koid c.self.invariant.indexed c.take_holding.ensures.rest;
     }
 
 pub queue_signal-requires : goal.queue_signal-requires
 queue_signal-requires c =
     place_there c.in_ok-wait.wait c.take_holding.new.by_koid.entries
-    ((one_out_whole (holds c.args.active.0) c.self.inside.by_koid.entries c.take_holding.new.by_koid.entries c.self.inside.next_koid
+    ((one_out_whole (watch_holds c.args.active.0) c.self.inside.by_koid.entries c.take_holding.new.by_koid.entries c.self.inside.next_koid
     (vec_capacity c.self.inside.dying) c.args.koid c.self.inside.dying.items c.self.invariant.kept.whole c.take_holding.ensures.rest c.in_ok-wait.wait
     (sym c.take_holding.ensures.earliest ∙ c.in_ok-wait.was {u = tt})).places)
 
@@ -37,10 +37,10 @@ invariant_of-self-2 c =
           c.in_ok-wait.wait.port (λ o at unmarked. unless_wanted _ c.is_watched.result c.add_if.ensures.wanted unmarked _ (watched_after (at_port gives)
           c.take_holding.new.by_koid.entries c.in_ok-wait.wait.port c.is_watched.result o at (rw c.queue_signal.ensures at c.is_watched.ensures)))
           c.queue_signal.ensures
-          (unwatched_calm (holds c.args.active.0) c.self.inside.by_koid.entries
+          (unwatched_calm (watch_holds c.args.active.0) c.self.inside.by_koid.entries
           c.take_holding.new.by_koid.entries c.args.koid c.take_holding.ensures.rest c.self.invariant.calm);
       indexed = port_indexed gives c.in_ok-wait.wait.port
-          (unwatched_indexed (holds c.args.active.0) c.args.koid c.self.invariant.indexed c.take_holding.ensures.rest) c.queue_signal.ensures;
+          (unwatched_indexed (watch_holds c.args.active.0) c.args.koid c.self.invariant.indexed c.take_holding.ensures.rest) c.queue_signal.ensures;
     }
 
 pub returns-in_err-wait-clause-rest : goal.returns-in_err-wait-clause-rest

@@ -1,4 +1,4 @@
-use Rattle.zl_objects.proofs.Common.{ap, is_by_handle, refl, rules, sym, wait_at, without_place, ◌&&◌, ◌==◌, ◌∙◌}
+use Rattle.zl_objects.proofs.Common.{ap, is_by_handle_here, refl, rules, sym, wait_at, without_place, ◌&&◌, ◌==◌, ◌∙◌}
 use Rattle.std.proofs.Common.{option_map}
 use Rattle.zl_objects.proofs.CalmChanges.{port_calm, unwatched_calm}
 use Rattle.zl_objects.proofs.Index.{port_indexed, unwatched_indexed}
@@ -10,9 +10,9 @@ pub invariant_of-self : goal.invariant_of-self
 invariant_of-self c = record {
   kept = none_out_kept c.args.koid (λ x. (x.pid == c.args.pid) && (x.value == c.args.value)) c.self.invariant.kept c.take_handle.ensures.rest
       (sym c.take_handle.ensures.earliest ∙ c.in_err-wait.was {u = tt});
-  calm = unwatched_calm (is_by_handle c.args.pid c.args.value) c.self.inside.by_koid.entries c.take_handle.new.by_koid.entries c.args.koid
+  calm = unwatched_calm (is_by_handle_here c.args.pid c.args.value) c.self.inside.by_koid.entries c.take_handle.new.by_koid.entries c.args.koid
       c.take_handle.ensures.rest c.self.invariant.calm;
-  indexed = unwatched_indexed (is_by_handle c.args.pid c.args.value) c.args.koid c.self.invariant.indexed c.take_handle.ensures.rest;
+  indexed = unwatched_indexed (is_by_handle_here c.args.pid c.args.value) c.args.koid c.self.invariant.indexed c.take_handle.ensures.rest;
 }
 
 pub invariant_of-self-2 : goal.invariant_of-self-2
@@ -23,10 +23,10 @@ invariant_of-self-2 c = record {
       c.give_back.ensures;
   calm = port_calm without_place (λ p h. h) c.take_handle.new.by_koid.entries
       c.give_back.new.by_koid.entries c.in_ok-wait.wait.port c.give_back.ensures
-      (unwatched_calm (is_by_handle c.args.pid c.args.value) c.self.inside.by_koid.entries c.take_handle.new.by_koid.entries c.args.koid
+      (unwatched_calm (is_by_handle_here c.args.pid c.args.value) c.self.inside.by_koid.entries c.take_handle.new.by_koid.entries c.args.koid
       c.take_handle.ensures.rest c.self.invariant.calm);
   indexed = port_indexed without_place c.in_ok-wait.wait.port
-      (unwatched_indexed (is_by_handle c.args.pid c.args.value) c.args.koid c.self.invariant.indexed c.take_handle.ensures.rest)
+      (unwatched_indexed (is_by_handle_here c.args.pid c.args.value) c.args.koid c.self.invariant.indexed c.take_handle.ensures.rest)
       c.give_back.ensures;
 }
 

@@ -1,4 +1,4 @@
-use Rattle.zl_objects.proofs.Common.{ap, is_keyed, refl, rules, sym, wait_at, without_place, ◌&&◌, ◌==◌, ◌∙◌}
+use Rattle.zl_objects.proofs.Common.{ap, is_keyed_here, refl, rules, sym, wait_at, without_place, ◌&&◌, ◌==◌, ◌∙◌}
 use Rattle.std.proofs.Common.{option_map}
 use Rattle.zl_objects.proofs.CalmChanges.{port_calm, unwatched_calm}
 use Rattle.zl_objects.proofs.Index.{port_indexed, unwatched_indexed}
@@ -11,9 +11,9 @@ invariant_of-self c = record {
   kept = none_out_kept c.args.koid (λ x. ((x.pid == c.args.pid) && (x.value == c.args.value)) && ((x.port == c.args.port) && (x.key == c.args.key)))
       c.self.invariant.kept c.take_key.ensures.rest
       (sym c.take_key.ensures.earliest ∙ c.in_err-wait.was {u = tt});
-  calm = unwatched_calm (is_keyed c.args.pid c.args.value c.args.port c.args.key) c.self.inside.by_koid.entries c.take_key.new.by_koid.entries c.args.koid
+  calm = unwatched_calm (is_keyed_here c.args.pid c.args.value c.args.port c.args.key) c.self.inside.by_koid.entries c.take_key.new.by_koid.entries c.args.koid
       c.take_key.ensures.rest c.self.invariant.calm;
-  indexed = unwatched_indexed (is_keyed c.args.pid c.args.value c.args.port c.args.key) c.args.koid c.self.invariant.indexed c.take_key.ensures.rest;
+  indexed = unwatched_indexed (is_keyed_here c.args.pid c.args.value c.args.port c.args.key) c.args.koid c.self.invariant.indexed c.take_key.ensures.rest;
 }
 
 pub invariant_of-self-2 : goal.invariant_of-self-2
@@ -25,10 +25,10 @@ invariant_of-self-2 c = record {
       c.give_back.ensures;
   calm = port_calm without_place (λ p h. h) c.take_key.new.by_koid.entries
       c.give_back.new.by_koid.entries c.in_ok-wait.wait.port c.give_back.ensures
-      (unwatched_calm (is_keyed c.args.pid c.args.value c.args.port c.args.key) c.self.inside.by_koid.entries c.take_key.new.by_koid.entries c.args.koid
+      (unwatched_calm (is_keyed_here c.args.pid c.args.value c.args.port c.args.key) c.self.inside.by_koid.entries c.take_key.new.by_koid.entries c.args.koid
       c.take_key.ensures.rest c.self.invariant.calm);
   indexed = port_indexed without_place c.in_ok-wait.wait.port
-      (unwatched_indexed (is_keyed c.args.pid c.args.value c.args.port c.args.key) c.args.koid c.self.invariant.indexed c.take_key.ensures.rest)
+      (unwatched_indexed (is_keyed_here c.args.pid c.args.value c.args.port c.args.key) c.args.koid c.self.invariant.indexed c.take_key.ensures.rest)
       c.give_back.ensures;
 }
 
@@ -61,6 +61,6 @@ returns-clause-listed c =
 
 pub returns-in_err-wait-clause-unchanged : goal.returns-in_err-wait-clause-unchanged
 returns-in_err-wait-clause-unchanged c =
-    let same = c.take_key.ensures.rest ∙ unwatched_none (is_keyed c.args.pid c.args.value c.args.port c.args.key) c.self.inside.by_koid.entries c.args.koid
+    let same = c.take_key.ensures.rest ∙ unwatched_none (is_keyed_here c.args.pid c.args.value c.args.port c.args.key) c.self.inside.by_koid.entries c.args.koid
     (sym c.take_key.ensures.earliest ∙ c.in_err-wait.was {u = tt}) in
     rw (same, c.self.view_is) (search rules)

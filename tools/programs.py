@@ -1,5 +1,6 @@
 """Which program of the lab the tools take: that of the checkout, of the package in which they lie, or of the PATH."""
 import os
+import re
 import shutil
 from pathlib import Path
 
@@ -13,6 +14,11 @@ NO_PROGRAM = "no program of the lab is here or on the PATH: --zlab PROGRAM names
 def is_checkout():
     """Whether these are the tools of a checkout, which knows its own programs."""
     return (TOP / "crates.txt").is_file() and (TOP / "tools").resolve() == TOOLS
+
+
+def called(text):
+    """A text with the names of tools as they are called here: in a package zlab-follow, which is tools/follow."""
+    return text if is_checkout() else re.sub(r"\btools/(?=[a-z])", "zlab-", text)
 
 
 def named(word):

@@ -1,4 +1,4 @@
-"""The lab itself: which program there is, and its answers."""
+"""The lab itself, and its answers."""
 import os
 import signal
 import subprocess
@@ -7,33 +7,17 @@ import threading
 
 from meaning.trouble import Answered, Trouble
 from meaning.zlt import taken
-from programs import NO_PROGRAM, TOP, installed, is_checkout, named
+from programs import named
 
-PROVED = TOP / "crates/zlab/out/zlab"
-# What ./run says at each start of a build that isn't proved; these programs aren't proved either.
+# What ./run says at each start of a build that isn't proved.
 UNPROVED = b"run: an unproved quick build answers"
-
-
-def add_option(parser, about="the lab's program"):
-    """The word for the program."""
-    parser.add_argument("--zlab", metavar="PROGRAM", help=f"{about}: the proved one if there is one, else ./run")
-
-
-def found_program():
-    """The program where none is named."""
-    if is_checkout():
-        return str(PROVED if os.access(PROVED, os.X_OK) else TOP / "run")
-    program = installed()
-    if program is None:
-        raise Trouble(NO_PROGRAM)
-    return program
 
 
 class Lab:
     """The lab's program, which is started in a folder, and may have so many seconds."""
 
-    def __init__(self, program=None, room=None, seconds=None):
-        self.program = named(program) if program else found_program()
+    def __init__(self, program, room=None, seconds=None):
+        self.program = named(program)
         self.room, self.seconds = room, seconds
         # how often it was started for a trace
         self.runs = 0

@@ -4,6 +4,8 @@ import signal
 import sys
 import time
 
+from starting import ENDINGS
+
 
 class Progress:
     """How far a search is: on a terminal one line that changes, elsewhere a line each half minute."""
@@ -46,7 +48,7 @@ class Progress:
     def __enter__(self):
         """From here on an interrupt ends the search where it says how far it is, and a second one at once."""
         self.is_interrupted = False
-        numbers = [number for number in (signal.SIGINT, signal.SIGTERM) if signal.getsignal(number) != signal.SIG_IGN]
+        numbers = [number for number in ENDINGS if signal.getsignal(number) != signal.SIG_IGN]
         self.before = {number: signal.signal(number, self.interrupt) for number in numbers}
         return self
 

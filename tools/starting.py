@@ -75,7 +75,7 @@ def find_program():
     it is the one that is installed."""
     if not is_checkout():
         if is_quick_package():
-            say("an unproved quick build answers")
+            say_unproved("an unproved quick build answers")
         return installed_program()
     found = subprocess.run(["bash", "-c", FIND, "bash", TOP], stdout=subprocess.PIPE, text=True)
     program = Path(found.stdout.strip())
@@ -87,7 +87,7 @@ def find_program():
         say("makes a quick build, which takes a minute or two and is kept")
         if subprocess.run([TOOLS / "quick-build"], stdout=subprocess.DEVNULL).returncode != 0:
             raise Trouble("no quick build; --zlab PROGRAM names another program")
-    say("an unproved quick build answers (./build proves one, which takes an hour)")
+    say_unproved("an unproved quick build answers (./build proves one, which takes an hour)")
     return program
 
 
@@ -151,6 +151,12 @@ def say(text):
             print(f"{TOOL}: {text}", file=sys.stderr)
     except OSError:
         pass
+
+
+def say_unproved(text):
+    """Says that what answers isn't proved, unless somebody knows that and wants no such line."""
+    if os.environ.get("ZLAB_QUIET") != "1":
+        say(text)
 
 
 def leave_output():

@@ -1,8 +1,10 @@
 """What a search looks for: a pattern in answers and ends, and the smallest schedule that still has it."""
+from meaning.codes import told_ends
 from meaning.scenario import joined
 
 from .ends import end_reasons, is_cut
 from .orders import Nothing
+from .patterns import has_meaning, has_name
 from .turns import choices, played
 
 # How many schedules are tried at most to make one smaller.
@@ -12,8 +14,10 @@ MOST_TRIES = 3000
 class Bad(Nothing):
     """A pattern that is looked for in answers of calls, in states at the end, and in why nobody goes on."""
 
-    def __init__(self, pattern):
-        self.pattern = pattern
+    def __init__(self, pattern, telling):
+        self.pattern, self.telling = pattern, telling
+        # What it speaks of that lines of a trace don't have: names of processes and objects, and meanings of codes.
+        self.is_of_names, self.is_of_codes = has_name(pattern, telling.names.values()), has_meaning(pattern)
         # Where it was found first.
         self.place = None
 
@@ -21,26 +25,38 @@ class Bad(Nothing):
     def is_found(self):
         return self.place is not None
 
+    def forms(self, line, named):
+        """A line as a trace has it, and with what the pattern speaks of."""
+        forms = [line, named or self.telling.told(line)] if self.is_of_names else [line]
+        return [*forms, *map(told_ends, forms)] if self.is_of_codes else forms
+
     def line_in(self, lines):
-        """The first of the lines that has the pattern."""
-        return next((line for line in lines if self.pattern.search(line)), None)
+        """The first of the lines that has the pattern, as it is told. Some come with names too."""
+        for line, named in lines:
+            if any(self.pattern.search(form) for form in self.forms(line, named)):
+                return told_ends(named or self.telling.told(line))
+        return None
 
     def look(self, place, lines):
         if self.place is None and self.line_in(lines) is not None:
             self.place = place
 
     def step(self, place, said):
-        self.look(place, [said])
+        self.look(place, [(said, None)])
 
     def end(self, place, world):
-        self.look(place, [*world.last_lines(), *end_reasons(world)])
+        self.look(place, [*((line, None) for line in world.last_lines()), *self.reasons(world)])
+
+    def reasons(self, world):
+        """Why nobody goes on, with numbers and with names."""
+        return zip(end_reasons(world), end_reasons(world, self.telling))
 
     def line_of(self, trace, world):
         """The bad line of a trace that leads to the world. What a process is in counts only at an end."""
         is_end = not choices(world) and not is_cut(world)
-        lines = [line for line in trace[:-1] if " run " not in line
+        lines = [(line, None) for line in trace[:-1] if " run " not in line
                  and (is_end or not line.startswith("process ") or " ended " in line or line.endswith(" gone"))]
-        return self.line_in([*lines, *(end_reasons(world) if is_end else [])])
+        return self.line_in([*lines, *(self.reasons(world) if is_end else [])])
 
 
 class Shrinking:

@@ -1,5 +1,6 @@
 """What an end of all orders is: the state of each process, who waits for what, and who could bring it."""
 from meaning.calls import SIGNALED_KINDS
+from meaning.codes import told_ends
 from meaning.numbers import (
     NO_JOBS, NO_PROCESSES, PEER_CLOSED, READABLE, RIGHTS, SIGNALED, SIGNALS, SIGNALS_OF, TERMINATED, USER_SIGNALS,
     USERS)
@@ -17,7 +18,7 @@ NO_END = "no end: after these turns all orders go round for ever"
 
 def end_name(world, telling=NO_NAMES):
     """The states of all processes."""
-    return ", ".join(f"{telling.who(pid)} {process.state_text()}" for pid, process in sorted(world.processes.items()))
+    return told_ends(", ".join(f"{telling.who(pid)} {process.state_text()}" for pid, process in sorted(world.processes.items())))
 
 
 def is_cut(world):

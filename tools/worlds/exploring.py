@@ -60,7 +60,7 @@ class Exploring:
         """The schedule of a run, once the lab has taken it."""
         turns = joined(run.turns)
         self.confirm(turns, run.trace())
-        end = run.end()
+        end = run.end(self.telling)
         if end is not None:
             self.confirmed[end] = min(self.confirmed.get(end, turns), turns, key=len)
         return turns
@@ -135,7 +135,7 @@ class Searched:
 
     def __init__(self, exploring, watch, part):
         self.exploring, self.part = exploring, part
-        self.graph = Graph(exploring.first, watch)
+        self.graph = Graph(exploring.first, watch, exploring.telling)
         self.to_roots = []
 
     @property

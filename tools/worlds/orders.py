@@ -2,7 +2,7 @@
 from collections import deque
 from typing import NamedTuple
 
-from .ends import end_name, end_reasons, is_cut
+from .ends import NO_NAMES, end_name, end_reasons, is_cut
 from .turns import choices, go, turns_to_call
 
 
@@ -19,6 +19,11 @@ class End(NamedTuple):
     """An end of orders: the states of its processes, and why nobody goes on."""
     name: str
     reasons: tuple
+
+
+def end_of(world, telling):
+    """The end that the world is."""
+    return End(end_name(world, telling), tuple(end_reasons(world, telling)))
 
 
 class Run:
@@ -40,11 +45,9 @@ class Run:
         """All lines of the trace of its schedule."""
         return [*self.lines, *self.world.last_lines(), "end schedule"]
 
-    def end(self):
+    def end(self, telling=NO_NAMES):
         """The end that it has come to, if it is one."""
-        if choices(self.world) or is_cut(self.world):
-            return None
-        return End(end_name(self.world), tuple(end_reasons(self.world)))
+        return None if choices(self.world) or is_cut(self.world) else end_of(self.world, telling)
 
 
 def run_of(first, order):
@@ -78,10 +81,10 @@ class Nothing:
 
 class Graph:
     """The worlds by number, and the steps between them. A step is a process that goes on through a call. `watch` is
-    told of all of them, and ends the search when it has found what it looks for."""
+    told of all of them, and ends the search when it has found what it looks for. `telling` has the names in ends."""
 
-    def __init__(self, first, watch):
-        self.first, self.watch = first, watch
+    def __init__(self, first, watch, telling=NO_NAMES):
+        self.first, self.watch, self.telling = first, watch, telling
         # Parts of worlds by number, so that a world is known by a short tuple, and worlds by number.
         self.parts, self.numbers = {}, {}
         # By world: the world and the process that led to it first; of a root, None and the order to it.
@@ -157,7 +160,7 @@ class Graph:
         if is_cut(world):
             self.is_cut = True
             return
-        self.ends[number] = End(end_name(world), tuple(end_reasons(world)))
+        self.ends[number] = end_of(world, self.telling)
         self.watch.end(Place(number), world)
 
 

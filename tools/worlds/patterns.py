@@ -2,14 +2,17 @@
 import difflib
 import re
 
+from meaning.codes import BY_THE_LAB
 from meaning.instructions import ROWS
-from meaning.numbers import KINDS, SIGNALS, STATUSES
+from meaning.numbers import KINDS, SIGNALS, STATUSES, USERS
 
 STATES = ("process", "created", "ready", "blocked", "ended", "stuck", "gone")
 # What the lines below ends say beside kinds, signals and calls.
 REASONS = ("deadlock blocked for good waits wait_one port_wait packet signals signal which nobody else could bring "
            "goes round ever without call end after these turns all orders").split()
-VOCABULARY = sorted({*(row.name for row in ROWS if row.is_call), *STATUSES, *STATES, *REASONS, *KINDS, *SIGNALS})
+# What is told of the code of an end.
+MEANINGS = (*(word for text in BY_THE_LAB.values() for word in text.split()), *STATUSES, *USERS)
+VOCABULARY = sorted({*(row.name for row in ROWS if row.is_call), *STATUSES, *STATES, *REASONS, *KINDS, *SIGNALS, *MEANINGS})
 # What stands in a pattern and isn't looked for as it is written: flags, names and comments of groups, letters behind
 # a backslash, sets of letters, and a letter that may be left out.
 NO_TEXT = re.compile(r"\(\?P?<[A-Za-z_]\w*>|\(\?P=\w+\)|\(\?#[^)]*\)|\(\?\(\w+\)|\(\?[A-Za-z-]+[:)]|\\.|"
@@ -23,19 +26,30 @@ def runs_in(pattern):
     return re.findall(rf"[A-Za-z_]{{{SHORTEST},}}", NO_TEXT.sub(" ", pattern))
 
 
-def wrong_word(pattern, names=None):
-    """What is wrong with a pattern that has a word which is part of no call, status, state or cause; else nothing."""
+def wrong_word(pattern, names=()):
+    """What is wrong with a pattern that has a word which is part of no call, status, state, cause or name; else nothing."""
     is_same = str.lower if pattern.flags & re.IGNORECASE else str
+    words = [*VOCABULARY, *names]
     for run in runs_in(pattern.pattern):
-        if any(is_same(run) in is_same(word) for word in VOCABULARY):
+        if any(is_same(run) in is_same(word) for word in words):
             continue
-        number = next((number for number, name in (names or {}).items() if name == run), None)
-        if number is not None:
-            return f"{run} is told by its number here, {number}"
-        near = max(VOCABULARY, key=lambda word: nearness(run, word))
+        near = max(words, key=lambda word: nearness(run, word))
         meant = f"; did you mean {near}?" if nearness(run, near) >= NEAR else ""
-        return f"{run} is part of no call, status, state or cause{meant}"
+        return f"{run} is part of no call, status, state or cause{', and of no name' * bool(names)}{meant}"
     return None
+
+
+def has_name(pattern, names):
+    """Whether a pattern has one of the names."""
+    text = NO_TEXT.sub(" ", pattern.pattern)
+    return any(re.search(rf"(?<!\w){re.escape(name)}(?!\w)", text) for name in names)
+
+
+def has_meaning(pattern):
+    """Whether a pattern speaks of what the code of an end stands for, as `ended 24 (PEER_CLOSED)` does."""
+    text, runs = pattern.pattern, runs_in(pattern.pattern)
+    is_of_ends = any(word in text for word in ("\\(", "[(]")) or any(run in word for run in runs for word in (*STATUSES, *USERS))
+    return any(word in text for word in ("0x", "killed", "policy")) or "ended" in text and is_of_ends
 
 
 def nearness(run, word):

@@ -2,6 +2,8 @@
 import re
 from typing import NamedTuple
 
+from meaning.codes import told_ends
+
 from .orders import End
 
 INDENT = "    "
@@ -48,7 +50,7 @@ def read_ends(lines):
             continue
         if head and below:
             count = None if head[1] == "some" else int(head[2].replace(",", ""))
-            yield Told(End(head[3], tuple(below[:-1])), count, below[-1])
+            yield Told(End(told_ends(head[3]), tuple(below[:-1])), count, below[-1])
         head, below = re.fullmatch(r"(some|([\d,]+) of [\d,]+) orders?: (.*)", line.rstrip("\n")), []
 
 

@@ -1,6 +1,7 @@
 """What is told of assertions: which hold, and schedules for those that are broken and for what is there sometimes."""
 from pathlib import Path
 
+from meaning.codes import told_ends
 from meaning.scenario import joined
 from meaning.trouble import Trouble
 
@@ -104,7 +105,7 @@ class Verdicts:
         telling, world = self.exploring.telling, self.exploring.first.copy()
         trace = played(world, turns)
         items = trace[:-1 - len(world.last_lines())]
-        last = telling.told(items[-1]) if items else ""
+        last = telling.told(told_ends(items[-1])) if items else ""
         if sight.item:
             return [last]
         if sight.in_worlds:

@@ -1,4 +1,4 @@
-"""What a tool tells of items, with the names of objects by the table below a scenario."""
+"""What a tool tells of items and places, with the names of objects by the table below a scenario."""
 import re
 
 OBJECT = re.compile(r"\b(channel|event|port|eventpair|job|process) ([0-9]{1,7})\b( \((?!taken))?")
@@ -8,14 +8,21 @@ FIRST = re.compile(r"^([0-9]{1,7})(?= )")
 
 
 class Telling:
-    """The names of objects, by their numbers."""
+    """The names of objects, by their numbers, and perhaps how places of programs are told (meaning.saying.Origins)."""
 
-    def __init__(self, names):
-        self.names = names
+    def __init__(self, names, origins=None):
+        self.names, self.origins = names, origins
 
     def who(self, pid):
         """A process as it is told at the front of an item."""
         return self.names.get(pid, str(pid))
+
+    def where(self, program, places):
+        """Behind somebody the lines of these instructions, if it is known how these are told."""
+        if self.origins is None:
+            return ""
+        first, last = (self.origins.told_at(program, place) for place in (min(places), max(places)))
+        return f" in {first}" if first == last else f" in {first} to {last}"
 
     def told(self, text):
         """A text with names: of a process in place of its number, of other objects behind it."""

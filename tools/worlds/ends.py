@@ -7,7 +7,7 @@ from meaning.numbers import (
 from meaning.objects import PAIRS
 from meaning.telling import Telling
 
-from .world import FAR, ROUND
+from .world import FAR, ROUND, places_round
 
 # Where objects are told by their numbers.
 NO_NAMES = Telling({})
@@ -95,6 +95,11 @@ def wait_text(world, pid, others, telling):
     return f"{telling.who(pid)} waits {what}, which {who} could bring"
 
 
+def round_text(process, pid, telling):
+    """Who goes round without a call, and where."""
+    return telling.who(pid) + (telling.where(process.program, places_round(process.cpu)) if telling.origins else "")
+
+
 def reached_from(start, edges):
     """What is reached by one edge or more."""
     reached, left = set(), [start]
@@ -114,7 +119,7 @@ def end_reasons(world, telling=NO_NAMES):
     lines = []
     if waits:
         lines.append(CAUSES["deadlock" if in_circle else "blocked for good"] + "; ".join(waits))
-    rounds = [telling.who(pid) for pid, stop in world.ready() if stop == ROUND]
+    rounds = [round_text(world.processes[pid], pid, telling) for pid, stop in world.ready() if stop == ROUND]
     if rounds:
         lines.append(f"{CAUSES['goes round']} without a call: {', '.join(rounds)}")
     return lines

@@ -1,14 +1,15 @@
 """A scenario whose orders are tried: by the model, and each of them by the lab too."""
 import random
 
+from meaning.saying import Origins
 from meaning.scenario import joined, read_scenario, schedule_text, without_turns
 from meaning.telling import Telling
 from meaning.trouble import Trouble
 from meaning.zlt import names_in
 
-from .ends import is_cut
+from .ends import NO_END, is_cut
 from .orders import Graph, Place, Run, may_go, roots_of, run_of
-from .paths import covering_runs, endless_worlds, orders_to_ends
+from .paths import covering_runs, endless_worlds, going_round, orders_to_ends
 from .report import counted
 from .turns import choices
 from .world import first_world
@@ -31,7 +32,7 @@ class Exploring:
         self.short_text = b"".join(line + b"\n" for line in lines if line and not line.startswith(b"#"))
         self.cover = cover_of and cover_of(scenario)
         self.scenario, self.first = scenario, first_world(scenario, self.cover)
-        self.telling = Telling(names_in(text))
+        self.telling = Telling(names_in(text), Origins(scenario.programs, lab.told))
         self.runs_before = lab.runs
         # The ends to which runs have come that the lab has taken too, each with the schedule of the one with the fewest
         # lines, and the orders of those that take each step.
@@ -149,3 +150,11 @@ class Searched:
     def endless(self):
         """The worlds from which no order comes to an end; none are known where not all were gone on from."""
         return endless_worlds(self.graph) if self.is_whole else []
+
+    def no_end(self, number):
+        """What is told of a world from which no order comes to an end: who goes round, and where."""
+        telling, told = self.exploring.telling, []
+        for pid, place in sorted(going_round(self.graph, number).items()):
+            process = run_of(self.graph.first, self.graph.order_to(place)).world.processes[pid]
+            told.append(telling.who(pid) + telling.where(process.program, [process.cpu.place]))
+        return f"{NO_END}: {', '.join(told)}"

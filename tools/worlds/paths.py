@@ -45,6 +45,42 @@ def endless_worlds(graph):
     return [number for number in range(len(graph.steps)) if number not in reached]
 
 
+def components(graph, start):
+    """The worlds to which one leads, each with a number that those have together which lead to each other."""
+    behind, seen, way = [], {start}, [(start, iter(graph.steps[start]))]
+    while way:
+        number, steps = way[-1]
+        target = next((target for _, target in steps if target not in seen), None)
+        if target is None:
+            behind.append(way.pop()[0])
+        else:
+            seen.add(target)
+            way.append((target, iter(graph.steps[target])))
+    before = defaultdict(list)
+    for number in behind:
+        for _, target in graph.steps[number]:
+            before[target].append(number)
+    found = {}
+    for first in reversed(behind):
+        left = [first]
+        while left:
+            number = left.pop()
+            if number not in found:
+                found[number] = first
+                left += before[number]
+    return found
+
+
+def going_round(graph, start):
+    """The processes that go round for ever from a world on, each with a world in which it goes on."""
+    together, found = components(graph, start), {}
+    for number, first in together.items():
+        for pid, target in graph.steps[number]:
+            if together[target] == first:
+                found.setdefault(pid, number)
+    return found
+
+
 def lines_in(order):
     """How many lines the schedule of an order has."""
     return sum(place == 0 or order[place - 1] != pid for place, pid in enumerate(order))

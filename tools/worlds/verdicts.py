@@ -7,7 +7,7 @@ from meaning.trouble import Trouble
 
 from .bad import Shrinking
 from .deciding import BROKEN, HOLDS, UNDECIDED, Asserted
-from .ends import CAUSES, NO_END, end_name, end_reasons
+from .ends import CAUSES, end_name, end_reasons
 from .orders import run_of
 from .paths import lines_in, shortest_orders
 from .report import CONFIRMED, INDENT, NOT_YET, counted, turns_text
@@ -48,10 +48,10 @@ def small_turns(first, sight):
 
 
 class Verdicts:
-    """The verdicts of a scenario, and how they are told."""
+    """The verdicts of a scenario, and how they are told. `found` is the search by which they are known, if it is one."""
 
-    def __init__(self, path, exploring, verdicts):
-        self.path, self.exploring, self.verdicts = path, exploring, verdicts
+    def __init__(self, path, exploring, verdicts, found=None):
+        self.path, self.exploring, self.verdicts, self.found = path, exploring, verdicts, found
         self.sights = [verdict.sight for verdict in verdicts]
 
     def count(self, found):
@@ -111,7 +111,8 @@ class Verdicts:
         if sight.in_worlds:
             return [f"behind {last}" if last else "before the first call"]
         if choices(world):
-            return [NO_END]
+            graph = self.found.graph
+            return [self.found.no_end(graph.numbers[graph.key(world)])]
         why = end_reasons(world, telling)
         return [line for line in why if line.startswith(CAUSES[sight.cause.name])] if sight.cause else [
             end_name(world, telling), *why]
@@ -147,7 +148,7 @@ class Decided:
         exploring.confirm_steps(self.found)
         self.asserted.endless(self.found.endless())
         self.is_all = self.found.is_whole and part[1] == 1
-        self.verdicts = Verdicts(path, exploring, self.asserted.verdicts(self.is_all))
+        self.verdicts = Verdicts(path, exploring, self.asserted.verdicts(self.is_all), self.found)
         self.turns = self.verdicts.turns_of_orders(self.found.graph)
 
     def tried(self):

@@ -32,6 +32,16 @@ def burst(cpu, most, note=None):
     return most, FAR
 
 
+def places_round(cpu):
+    """The places to which one comes that goes round."""
+    cpu, places = cpu.copy(), set()
+    start = cpu.parts()
+    while not places or cpu.parts() != start:
+        places.add(cpu.place)
+        cpu.local(cpu.next())
+    return places
+
+
 class SearchedWorld(World):
     """A world in which each ready process stands at its next call, as local instructions touch nobody else. `cover`, if
     there is one, is told which instructions are done."""

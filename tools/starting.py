@@ -45,8 +45,8 @@ class Words(argparse.ArgumentParser):
 
     def add_lab(self, more=""):
         """The word for the program of the lab."""
-        self.add_argument("--zlab", metavar="PROGRAM", help=f"the lab's program{more}, in place of the one that ./run takes; "
-                                                            "a package has its own")
+        other = "that ./run takes" if is_checkout() else "beside the tools, or on the PATH"
+        self.add_argument("--zlab", metavar="PROGRAM", help=f"the lab's program{more}, in place of the one {other}")
 
     def error(self, message):
         raise Trouble(f"{message}; {self.prog} --help says what it takes")

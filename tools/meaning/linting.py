@@ -15,6 +15,7 @@ from meaning.texts import bare, is_instruction
 from meaning.trouble import Trouble
 from meaning.values import ANY, Has, Word
 from meaning.verifier import verify
+from programs import called
 
 MOST_FAULTS = 100
 SAID = re.compile(r"zlab: (?:line|instruction) ([0-9]+): (\w+): (.*?)(?: \((docs/[^)]*)\))?")
@@ -66,7 +67,7 @@ class Fault:
             yield f" {self.line} | {self.source}"
             yield f"{'|':>{margin + 1}}{' ' * self.column}{'^' * (self.end - self.column)} {self.note}".rstrip()
         cure = f"{self.cure} " if self.cure else ""
-        yield f"{'=':>{margin + 1}} {cure}(tools/explain {self.cause})"
+        yield f"{'=':>{margin + 1}} {cure}({called('tools/explain')} {self.cause})"
 
     def known(self):
         """Its parts, for other programs."""
@@ -318,7 +319,7 @@ def giver_of(code, refusal):
 def linted(lab, path, content, numbered):
     """The faults of a file's bytes, and how many programs it has."""
     if content.startswith(b"ZLAB"):
-        raise Trouble(f"{path} is an image, and no text: tools/disasm writes its text, and check judges it")
+        raise Trouble(f"{path} is an image, and no text: {called('tools/disasm')} writes its text, and check judges it")
     text = (numbered.content() if numbered else content).decode("latin-1")
     source = content.decode("latin-1").split("\n")
     origins = [line.place for line in numbered.lines] if numbered else list(range(1, len(source) + 1))

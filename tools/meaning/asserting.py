@@ -16,7 +16,7 @@ from meaning.naming import NAMES, OBJECTS, meant
 from meaning.numbers import DEFAULT_RIGHTS, KINDS, KNOWN_RIGHTS, RIGHTS, STATUSES, USERS
 from meaning.scenario import words_of
 from meaning.trouble import Trouble
-from meaning.zlt import is_named, names_in, numbered
+from meaning.zlt import names_in
 
 MARK = "#?"
 MODES = ("never", "sometimes", "always", "at end:")
@@ -130,12 +130,11 @@ def has_assertions(content):
     return content.startswith(MARK.encode()) or b"\n" + MARK.encode() in content
 
 
-def read_assertions(path, content, scenario):
-    """The assertions of a file, whose scenario the lab doesn't refuse."""
+def read_assertions(path, content, scenario, file):
+    """The assertions of a file, whose scenario the lab doesn't refuse; `file` is the one with numbers, if it has names."""
     if not has_assertions(content):
         return []
-    if is_named(path, content):
-        file = numbered(path, content)
+    if file:
         lines = [(line.origin, line.text) for line in file.lines]
         programs = file.names.programs
         names = {name: koid for name, koid in file.names.own.items() if name not in programs}

@@ -44,7 +44,7 @@ class Chart:
     def name(self, pid):
         process = self.world.processes[pid]
         kind = "checked" if self.world.programs[process.program].is_checked else "raw"
-        return f"{self.telling.who(pid)}: program {process.program}, {kind}"
+        return f"{self.telling.who(pid)}: {self.telling.told(f'program {process.program}')}, {kind}"
 
     def row(self, kind, line, pid, text, **more):
         if len(self.rows) >= MOST_ROWS:

@@ -21,8 +21,13 @@ class Lab:
         self.room, self.seconds = room, seconds
         # how often it was started for a trace
         self.runs = 0
-        # how a line of standard error is told, if it has other numbers of lines than the file
-        self.told = None
+        # the file with numbers that it took, if that has names
+        self.file = None
+
+    @property
+    def told(self):
+        """How a line of standard error is told, if it has other numbers of lines than the file."""
+        return self.file.told if self.file else None
 
     def start(self, words, given, said=subprocess.PIPE, is_apart=False):
         """Its status, what it writes to these words and this standard input, and what it says on standard error,
@@ -46,7 +51,7 @@ class Lab:
     def take(self, path, content):
         """A file as the lab takes it: with numbers, where it has names."""
         try:
-            content, self.told = taken(path, content, self)
+            content, self.file = taken(path, content, self)
         except Trouble as trouble:
             raise Trouble(f"{trouble}" if str(path) == "-" else f"{path}: {trouble}", trouble.status) from None
         return content

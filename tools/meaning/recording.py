@@ -109,7 +109,7 @@ class Recording:
         program, place = self.world.programs[process.program], process.cpu.place
         record = {"who": self.telling.who(pid), "name": self.telling.told(f"process {pid}"), "pid": pid,
                   "state": told_ends(process.state_text()),
-                  "program": f"program {process.program}, {'checked' if program.is_checked else 'raw'}"}
+                  "program": self.telling.told(f"program {process.program}, {'checked' if program.is_checked else 'raw'}")}
         if process.state in LIVING:
             record["line"], record["next"] = self.code(process.program, place)
         if process.awaits:

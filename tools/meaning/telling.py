@@ -2,16 +2,17 @@
 import re
 
 OBJECT = re.compile(r"\b(channel|event|port|eventpair|job|process) ([0-9]{1,7})\b( \((?!taken))?")
+PROGRAM = re.compile(r"\bprogram ([0-9]{1,3})\b")
 # Behind the item its meaning begins in this column.
 COLUMN = 34
 FIRST = re.compile(r"^([0-9]{1,7})(?= )")
 
 
 class Telling:
-    """The names of objects, by their numbers, and perhaps how places of programs are told (meaning.saying.Origins)."""
+    """The names of objects and of programs, by their numbers, and perhaps how places of programs are told, by Origins."""
 
-    def __init__(self, names, origins=None):
-        self.names, self.origins = names, origins
+    def __init__(self, names, programs=None, origins=None):
+        self.names, self.programs, self.origins = names, programs or {}, origins
 
     def who(self, pid):
         """A process as it is told at the front of an item."""
@@ -25,7 +26,9 @@ class Telling:
         return f" in {first}" if first == last else f" in {first} to {last}"
 
     def told(self, text):
-        """A text with names: of a process in place of its number, of other objects behind it."""
+        """A text with names: of a process or a program in place of its number, of other objects behind it."""
+        if self.programs:
+            text = PROGRAM.sub(lambda found: f"program {self.programs.get(int(found[1]), found[1])}", text)
         if not self.names:
             return text
         return OBJECT.sub(self.named, FIRST.sub(lambda found: self.who(int(found[1])), text))

@@ -41,6 +41,11 @@ class Numbered:
             raise Trouble(f"{self.path} comes to more than {MOST_BYTES:,} bytes")
         return text.encode("latin-1")
 
+    @property
+    def programs(self):
+        """The names of programs by their numbers."""
+        return {self.names.own[name]: name[1:] for name in sorted(self.names.programs, reverse=True)}
+
     def map(self):
         """For each line that is written its line in the file, and the rounds in which it stands."""
         # behind the last end of a line no line stands
@@ -127,14 +132,14 @@ def handles_of(lines, is_text):
 
 
 def taken(path, content, lab=None):
-    """A file as the lab takes it, and how a line that the lab says of it is told. Without a lab, for what needs no
-    turns, rest has none."""
+    """A file as the lab takes it, and the one with numbers, if it has names. Without a lab, for what needs no turns, rest
+    has none."""
     if not is_named(path, content):
         return content, None
     file = numbered(path, content)
     if lab and file.rest is not None:
         file = file.with_rest(Rest(lab, file).turns())
-    return file.content(), file.told
+    return file.content(), file
 
 
 def names_in(text):

@@ -50,10 +50,10 @@ def is_choice(one):
 
 
 class Covered:
-    """What is told of it. `name_of` has the name of a program, and `line_of` what is told of a line."""
+    """What is told of it."""
 
-    def __init__(self, cover, is_all, name_of, line_of):
-        self.cover, self.name_of, self.line_of = cover, name_of, line_of
+    def __init__(self, cover, is_all, telling):
+        self.cover, self.telling = cover, telling
         self.not_there = "never" if is_all else "not yet"
         self.not_reached = "not reached" if is_all else "not yet reached"
         self.counts = {"instructions": [0, 0], "jumps": [0, 0], "answers": [0, 0]}
@@ -66,27 +66,28 @@ class Covered:
         for number, program in enumerate(self.cover.programs):
             code, reached = program.image.code, self.cover.reached[number]
             self.count("instructions", len(reached), len(code))
-            yield f"{self.name_of(number)}: {len(reached)} of {len(code)} instructions reached"
-            for line in [*self.gaps(program, reached), *self.places(number, program, reached)]:
-                yield f"{self.name_of(number)}: {line}"
+            name = self.telling.programs.get(number, f"program {number}")
+            yield f"{name}: {len(reached)} of {len(code)} instructions reached"
+            for line in [*self.gaps(number, program, reached), *self.places(number, program, reached)]:
+                yield f"{name}: {line}"
 
     def summary(self):
         parts = [f"{there} of {of_all} {what}" for what, (there, of_all) in self.counts.items()]
         return f"{parts[0]} reached, {parts[1]} both ways, {parts[2]}"
 
-    def place(self, program, place):
-        """What is told of the place of an instruction."""
-        return f"line {self.line_of(program.lines[place])}" if program.lines else f"instruction {place}"
-
-    def gaps(self, program, reached):
+    def gaps(self, number, program, reached):
         """The instructions that nobody has come to, those that follow each other in one line."""
         missing = [place for place in range(len(program.image.code)) if place not in reached]
         for _, group in groupby(enumerate(missing), lambda pair: pair[1] - pair[0]):
             places = [place for _, place in group]
             if len(places) == 1:
-                yield f"{self.place(program, places[0])} {program.texts[places[0]]}: {self.not_reached}"
+                yield f"{self.at(number, places[0])} {program.texts[places[0]]}: {self.not_reached}"
             else:
-                yield f"{self.place(program, places[0])} to {self.place(program, places[-1])}: {self.not_reached}"
+                yield f"{self.at(number, places[0])} to {self.at(number, places[-1])}: {self.not_reached}"
+
+    def at(self, number, place):
+        """What is told of the place of an instruction."""
+        return self.telling.origins.told_at(number, place)
 
     def places(self, number, program, reached):
         """Jumps that went one way alone, and calls of which an answer is missing."""
@@ -95,15 +96,15 @@ class Covered:
             if is_choice(one):
                 ways = self.cover.ways[number].get(place, set())
                 self.count("jumps", len(ways) == 2, 1)
-                yield from self.missing(program, place, program.texts[place], [JUMPS, GOES_ON], ways)
+                yield from self.missing(number, place, program.texts[place], [JUMPS, GOES_ON], ways)
             elif ANSWERS.get(one.name):
                 came = self.cover.answers[number].get(place, set())
                 wanted = [answer for answer in ANSWERS[one.name] if answer in OF_OTHERS or answer in came]
                 self.count("answers", len(came), len(wanted))
-                yield from self.missing(program, place, one.name, wanted, came)
+                yield from self.missing(number, place, one.name, wanted, came)
 
-    def missing(self, program, place, text, wanted, came):
+    def missing(self, number, place, text, wanted, came):
         if not set(wanted) <= came:
             there = ", ".join(one for one in wanted if one in came) or "nothing"
             gone = ", ".join(one for one in wanted if one not in came)
-            yield f"{self.place(program, place)} {text}: {there}; {self.not_there} {gone}"
+            yield f"{self.at(number, place)} {text}: {there}; {self.not_there} {gone}"

@@ -32,7 +32,7 @@ class Exploring:
         self.short_text = b"".join(line + b"\n" for line in lines if line and not line.startswith(b"#"))
         self.cover = cover_of and cover_of(scenario)
         self.scenario, self.first = scenario, first_world(scenario, self.cover)
-        self.telling = Telling(names_in(text), Origins(scenario.programs, lab.told))
+        self.telling = Telling(names_in(text), lab.file and lab.file.programs, Origins(scenario.programs, lab.told))
         self.runs_before = lab.runs
         # The ends to which runs have come that the lab has taken too, each with the schedule of the one with the fewest
         # lines, and the orders of those that take each step.

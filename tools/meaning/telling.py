@@ -8,6 +8,11 @@ COLUMN = 34
 FIRST = re.compile(r"^([0-9]{1,7})(?= )")
 
 
+def counted(count, noun):
+    """So many of what the noun names."""
+    return f"{count:,} {noun}{'' if count == 1 else 's'}"
+
+
 class Telling:
     """The names of objects and of programs, by their numbers, and perhaps how places of programs are told, by Origins."""
 

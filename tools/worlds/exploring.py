@@ -3,14 +3,13 @@ import random
 
 from meaning.saying import Origins
 from meaning.scenario import joined, read_scenario, schedule_text, without_turns
-from meaning.telling import Telling
+from meaning.telling import Telling, counted
 from meaning.trouble import Trouble
 from meaning.zlt import names_in
 
 from .ends import NO_END, is_cut
 from .orders import Graph, Place, Run, may_go, roots_of, run_of
 from .paths import covering_runs, endless_worlds, going_round, orders_to_ends
-from .report import counted
 from .turns import choices
 from .world import first_world
 

@@ -3,6 +3,7 @@ import re
 from typing import NamedTuple
 
 from meaning.codes import told_ends
+from meaning.telling import counted
 
 from .orders import End
 
@@ -18,11 +19,6 @@ class Told(NamedTuple):
     count: int | None
     turns: str
     more: str = ""
-
-
-def counted(count, noun):
-    """So many of what the noun names."""
-    return f"{count:,} {noun}{'' if count == 1 else 's'}"
 
 
 def turns_text(turns, telling=None):

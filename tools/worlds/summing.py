@@ -2,10 +2,11 @@
 import re
 from collections import Counter
 
+from meaning.telling import counted
 from meaning.trouble import Trouble
 
 from .deciding import BROKEN, HOLDS, UNDECIDED
-from .report import INDENT, add_up, counted, print_ends, read_ends
+from .report import INDENT, add_up, print_ends, read_ends
 from .verdicts import IN_NONE, NOT_SEEN, summary_of
 
 # How the lines begin that say of a part that it hasn't tried all.

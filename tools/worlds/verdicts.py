@@ -3,6 +3,7 @@ from pathlib import Path
 
 from meaning.codes import told_ends
 from meaning.scenario import joined
+from meaning.telling import counted
 from meaning.trouble import Trouble
 
 from .bad import Shrinking
@@ -10,7 +11,7 @@ from .deciding import BROKEN, HOLDS, UNDECIDED, Asserted
 from .ends import CAUSES, end_name, end_reasons
 from .orders import run_of
 from .paths import lines_in, shortest_orders
-from .report import CONFIRMED, INDENT, NOT_YET, counted, turns_text
+from .report import CONFIRMED, INDENT, NOT_YET, turns_text
 from .turns import choices, played
 
 # What is told below an assertion of which nothing, or something else, was seen.

@@ -30,6 +30,8 @@ def wrong_word(pattern, names=()):
     """What is wrong with a pattern that has a word which is part of no call, status, state, cause or name; else nothing."""
     is_same = str.lower if pattern.flags & re.IGNORECASE else str
     words = [*VOCABULARY, *names]
+    if "@" in NO_TEXT.sub(" ", pattern.pattern):
+        return "@ is part of no line: names stand there without it"
     for run in runs_in(pattern.pattern):
         if any(is_same(run) in is_same(word) for word in words):
             continue

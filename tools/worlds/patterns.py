@@ -26,14 +26,18 @@ def runs_in(pattern):
     return re.findall(rf"[A-Za-z_]{{{SHORTEST},}}", NO_TEXT.sub(" ", pattern))
 
 
+def same(pattern, text):
+    """The text, so that it can be compared as the pattern compares."""
+    return text.lower() if pattern.flags & re.IGNORECASE else text
+
+
 def wrong_word(pattern, names=()):
     """What is wrong with a pattern that has a word which is part of no call, status, state, cause or name; else nothing."""
-    is_same = str.lower if pattern.flags & re.IGNORECASE else str
     words = [*VOCABULARY, *names]
     if "@" in NO_TEXT.sub(" ", pattern.pattern):
         return "@ is part of no line: names stand there without it"
     for run in runs_in(pattern.pattern):
-        if any(is_same(run) in is_same(word) for word in words):
+        if any(same(pattern, run) in same(pattern, word) for word in words):
             continue
         near = max(words, key=lambda word: nearness(run, word))
         meant = f"; did you mean {near}?" if nearness(run, near) >= NEAR else ""
@@ -42,15 +46,16 @@ def wrong_word(pattern, names=()):
 
 
 def has_name(pattern, names):
-    """Whether a pattern has one of the names."""
-    text = NO_TEXT.sub(" ", pattern.pattern)
-    return any(re.search(rf"(?<!\w){re.escape(name)}(?!\w)", text) for name in names)
+    """Whether a pattern may speak of one of the names: it has one, or letters of one."""
+    text, runs = NO_TEXT.sub(" ", pattern.pattern), runs_in(pattern.pattern)
+    return any(re.search(rf"(?<!\w){re.escape(name)}(?!\w)", text, pattern.flags & re.IGNORECASE)
+               or any(same(pattern, run) in same(pattern, name) for run in runs) for name in names)
 
 
 def has_meaning(pattern):
     """Whether a pattern speaks of what the code of an end stands for, as `ended 24 (PEER_CLOSED)` does."""
-    text, runs = pattern.pattern, runs_in(pattern.pattern)
-    is_of_ends = any(word in text for word in ("\\(", "[(]")) or any(run in word for run in runs for word in (*STATUSES, *USERS))
+    text, runs = same(pattern, pattern.pattern), [same(pattern, run) for run in runs_in(pattern.pattern)]
+    is_of_ends = "\\(" in text or "[(]" in text or any(run in same(pattern, word) for run in runs for word in (*STATUSES, *USERS))
     return any(word in text for word in ("0x", "killed", "policy")) or "ended" in text and is_of_ends
 
 

@@ -27,7 +27,7 @@ objects =
 abbrev process : Process
 process = record {
   program = 0;
-  cpu = record { counter = 0; registers = []; memory = []; slots = [] };
+  cpu = record { counter = 0; registers = []; memory = []; slots = []; counters = [] };
   state = Ready;
   handles = (1, handle 5) ∷ (2, handle 7) ∷ [];
   last = None;

@@ -8,12 +8,14 @@ use Rattle.zl_rights.specs.Map.{Map}
 
 -- ---- processes
 
--- what a process computes with: program counter, registers, data memory, slot arrays
+-- what a process computes with: program counter, registers, data memory, slot arrays, counters of blocks
 pub record Cpu : Type 0 where
   pub counter : ℕ
   pub registers : List ℕ
   pub memory : List ℕ
   pub slots : List (List ℕ)
+  -- one for each counted block that it is in, the innermost first
+  pub counters : List ℕ
 
 -- each destination gets its value, and 0 where there is none
 abbrev pub written : List ℕ → List ℕ → List ℕ → List ℕ

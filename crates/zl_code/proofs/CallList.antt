@@ -45,7 +45,7 @@ row_behind (r ∷ rs) us opcode low from =
 
 row_listed : (opcode : ℕ) → 64 ≤ opcode → row_of opcode ≡ option_map call_row (slice_get calls (opcode - 64))
 unfolding row_of
-row_listed opcode from = row_behind (take 25 rows) (map call_row calls) opcode refl from ∙ row_at 64 calls (opcode - 64) opcode refl (omega (arith, from))
+row_listed opcode from = row_behind (take 27 rows) (map call_row calls) opcode refl from ∙ row_at 64 calls (opcode - 64) opcode refl (omega (arith, from))
 
 -- ---- the call of an opcode
 

@@ -74,8 +74,8 @@ reading_again : (i : CallInstr) → IsWhole i → reading_of (call_bytes i) ≡ 
 reading_again i w =
     λ k. record { registers = front i w k; imm = number_of (take 4 (behind i w k)); target = number_of (take 4 (far_behind i w k)); places = behind i w k }
 
-pub no_fault : (raw : Bool) (i : CallInstr) → IsWhole i → instr_fault raw (call_bytes i) ≡ None
-unfolding instr_fault
+pub no_fault : (raw : Bool) (i : CallInstr) → IsWhole i
+    → fault_by raw (reading_of (call_bytes i)) (layout_of (call_row i.name).opcode) ≡ None
 no_fault raw i w = (λ k. fault_by raw (reading_again i w k) (layout_is i.name k)) ∙ rw (w.registers, w.named, w.unused) refl
 
 -- the call that has these bytes

@@ -4,6 +4,9 @@ use Rattle.zl_code.proofs.Common.{false, first_some, get_or, get_or-drop, header
 use Rattle.zl_code.proofs.Common.{leb-true, length, length-drop, length_at, ltb-false, magic, nat_le, nat_lt, needs_byte, not, not-false, number_at, refl}
 use Rattle.zl_code.proofs.Common.{slice_index, slots_at, starts_at, starts_with, suc, sym, take, then_some, true, zero, ℕ, ◌++◌, ◌==◌, ◌∙◌, ◌∷◌, ◌≡◌, ◌≤◌}
 use Rattle.zl_code.specs.declared.image.DecodeFault.TheVariants as faults
+use Rattle.zl_code.specs.declared.image.Version.TheVariants as version
+use Rattle.zl_code.specs.Spells.{is_version, version_at, version_number}
+use Rattle.zl_code.proofs.Common.{if◌then◌else◌, ◌||◌}
 use Rattle.zl_code.proofs.ImageBytes.{IsBytes, bytes_of-number_at, parts_at}
 use Rattle.zl_rights.proofs.Named.{same_names}
 
@@ -11,7 +14,7 @@ use Rattle.zl_rights.proofs.Named.{same_names}
 pub record HeaderFits (bytes : List ℕ) : Type 0 where
   pub long : 20 ≤ length bytes
   pub front : starts_with ◌==◌ bytes magic ≡ true
-  pub version : slice_index bytes 4 ≡ 1
+  pub version : is_version (slice_index bytes 4) ≡ true
   pub in_range : is_header_in_range bytes ≡ true
   pub len : length bytes ≡ length_at bytes
 
@@ -25,20 +28,20 @@ unfolding header_fault
 header_fits bytes h =
     let a = no_fault_if (nat_lt (length bytes) 20) faults.Short _ h in
     let b = no_fault_if (not (starts_with ◌==◌ bytes magic)) faults.Magic _ a.1 in
-    let d = no_fault_if (not (slice_index bytes 4 == 1)) faults.Version _ b.1 in
+    let d = no_fault_if (not (is_version (slice_index bytes 4))) faults.Version _ b.1 in
     let e = no_fault_if (not (is_header_in_range bytes)) faults.BadHeader _ d.1 in
     let f = no_fault_if (not (length bytes == length_at bytes)) faults.Length _ e.1 in
     record {
       long = ltb-false _ _ a.0;
       front = not-false _ b.0;
-      version = eqb-true _ _ (not-false _ d.0);
+      version = not-false _ d.0;
       in_range = not-false _ e.0;
       len = eqb-true _ _ (not-false _ f.0);
     }
 
 pub no_header_fault : (bytes : List ℕ) → HeaderFits bytes → header_fault bytes ≡ None
 unfolding header_fault
-no_header_fault bytes h = rw (le-ltb (length bytes) 20 h.long, h.front, eq-eqb _ _ h.version, h.in_range, eq-eqb _ _ h.len) refl
+no_header_fault bytes h = rw (le-ltb (length bytes) 20 h.long, h.front, h.version, h.in_range, eq-eqb _ _ h.len) refl
 
 -- ---- what passes the tests is the header of an image
 
@@ -58,6 +61,14 @@ mark_is : (b : ℕ) → leb b 1 ≡ true → b ≡ cond (eqb b 1) 1 0
 mark_is zero h = refl
 mark_is (suc zero) h = refl
 mark_is (suc (suc b)) h = absurd (omega (arith, leb-true _ _ h))
+
+version_is : (b : ℕ) → is_version b ≡ true → b ≡ version_number (if b == 2 then version.Two else version.One)
+version_is b h = by (b == 1) refl (b == 2) refl h
+  where
+    by : (p : Bool) → (b == 1) ≡ p → (q : Bool) → (b == 2) ≡ q → (p || q) ≡ true → b ≡ version_number (if q then version.Two else version.One)
+    by p e true f k = eqb-true b 2 f
+    by true e false f k = eqb-true b 1 e
+    by false e false f k = cc
 
 -- the parts of the header, from the front
 header_parts : (bytes : List ℕ) → bytes ≡ take 4 bytes
@@ -93,6 +104,7 @@ header_ranges bytes h =
 
 -- the image has what the header says
 pub record HasHeader (bytes : List ℕ) (i : Image) : Type 0 where
+  pub version : i.version ≡ version_at bytes
   pub raw : i.raw ≡ is_raw_at bytes
   pub memory : i.memory ≡ number_at bytes 8 4
   pub budget : i.budget ≡ number_at bytes 12 4
@@ -109,7 +121,8 @@ header_spelled bytes i fits h has =
     let two : take 2 (drop 4 bytes) ≡ get_or bytes 4 0 ∷ get_or bytes 5 0 ∷ [] =
     first_two (drop 4 bytes) (omega (arith, length-drop 4 bytes)) ∙ (λ k. get_or-drop 4 bytes 0 0 k ∷ get_or-drop 4 bytes 1 0 k ∷ []) in
     let mark : slice_index bytes 5 ≡ cond i.raw 1 0 = mark_is (slice_index bytes 5) r.mark ∙ ap (λ (b : Bool). cond b 1 0) (sym has.raw) in
-    let marked : get_or bytes 4 0 ∷ get_or bytes 5 0 ∷ [] ≡ 1 ∷ cond i.raw 1 0 ∷ [] = (λ k. h.version k ∷ mark k ∷ []) in
+    let version : slice_index bytes 4 ≡ version_number i.version = version_is (slice_index bytes 4) h.version ∙ ap version_number (sym has.version) in
+    let marked : get_or bytes 4 0 ∷ get_or bytes 5 0 ∷ [] ≡ version_number i.version ∷ cond i.raw 1 0 ∷ [] = (λ k. version k ∷ mark k ∷ []) in
     let instrs : take 2 (drop 6 bytes) ≡ bytes_of 2 (length i.code) = sym (ap (bytes_of 2) has.code ∙ bytes_of-number_at bytes 6 2 (omega arith) fits) in
     let memory : take 4 (drop 8 bytes) ≡ bytes_of 4 i.memory = sym (ap (bytes_of 4) has.memory ∙ bytes_of-number_at bytes 8 4 (omega arith) fits) in
     let budget : take 4 (drop 12 bytes) ≡ bytes_of 4 i.budget = sym (ap (bytes_of 4) has.budget ∙ bytes_of-number_at bytes 12 4 (omega arith) fits) in

@@ -4,6 +4,8 @@ use Rattle.zl_code.proofs.Common.{bytes_of, drop, ending_bytes, eq-eqb, eqb, eqb
 use Rattle.zl_code.proofs.Common.{is_instr_in_range, is_unused_zero, layout_of, length, length-drop, length-take, list_all, names_registers, not, number_at}
 use Rattle.zl_code.proofs.Common.{reading_of, refl, registers_at, replicate, row_bytes, seven, slice_index, subst, suc, sym, take, take_all, then_some, true}
 use Rattle.zl_code.proofs.Common.{zero, ℕ, ◌++◌, ◌==◌, ◌∙◌, ◌∷◌, ◌≡◌, ◌≤◌}
+use Rattle.zl_code.specs.Instructions.{layout_at}
+use Rattle.zl_code.specs.declared.image.Version.{Version}
 use Rattle.zl_code.specs.declared.instr.Instr.TheVariants as instr
 use Rattle.zl_code.specs.declared.image.DecodeFault.TheVariants as faults
 use Rattle.zl_code.specs.declared.layout.Ending.{Ending}
@@ -82,20 +84,20 @@ row_bytes-read bytes opcode l r spelled len fits first from unused e =
 
 -- ---- faults
 
-pub instr_fault-unknown : (raw : Bool) (bytes : List ℕ) → layout_of (slice_index bytes 0) ≡ None → instr_fault raw bytes ≡ then_some (not raw) faults.UnknownOp
+pub instr_fault-unknown : (v : Version) (raw : Bool) (bytes : List ℕ) → layout_at v (slice_index bytes 0) ≡ None → instr_fault v raw bytes ≡ then_some (not raw) faults.UnknownOp
 unfolding instr_fault
-instr_fault-unknown raw bytes h = ap (fault_by raw (reading_of bytes)) h
+instr_fault-unknown v raw bytes h = ap (fault_by raw (reading_of bytes)) h
 
 -- registers that aren't there, in their fields or in the last eight bytes
-pub instr_fault-register : (raw : Bool) (bytes : List ℕ) (l : Layout) → layout_of (slice_index bytes 0) ≡ Some l → are_registers (registers_at bytes) ≡ false
-    → instr_fault raw bytes ≡ Some faults.BadRegister
+pub instr_fault-register : (v : Version) (raw : Bool) (bytes : List ℕ) (l : Layout) → layout_at v (slice_index bytes 0) ≡ Some l → are_registers (registers_at bytes) ≡ false
+    → instr_fault v raw bytes ≡ Some faults.BadRegister
 unfolding instr_fault
-instr_fault-register raw bytes l h bad = ap (fault_by raw (reading_of bytes)) h ∙ rw bad refl
+instr_fault-register v raw bytes l h bad = ap (fault_by raw (reading_of bytes)) h ∙ rw bad refl
 
-pub instr_fault-named : (raw : Bool) (bytes : List ℕ) (l : Layout) (r : Reading) → layout_of (slice_index bytes 0) ≡ Some l
-    → are_registers (registers_at bytes) ≡ true → IsReadFrom bytes r → names_registers l.ending r ≡ false → instr_fault raw bytes ≡ Some faults.BadRegister
+pub instr_fault-named : (v : Version) (raw : Bool) (bytes : List ℕ) (l : Layout) (r : Reading) → layout_at v (slice_index bytes 0) ≡ Some l
+    → are_registers (registers_at bytes) ≡ true → IsReadFrom bytes r → names_registers l.ending r ≡ false → instr_fault v raw bytes ≡ Some faults.BadRegister
 unfolding instr_fault
-instr_fault-named raw bytes l r h good from bad =
+instr_fault-named v raw bytes l r h good from bad =
     let read = as_read bytes r from in
     let missing : names_registers l.ending (reading_of bytes) ≡ false = sym (ap (names_registers l.ending) read) ∙ bad in
     ap (fault_by raw (reading_of bytes)) h ∙ rw (good, missing) refl
@@ -105,11 +107,11 @@ first_some-one None = refl
 first_some-one (Some f) = refl
 
 -- with registers in their range, a fault is a set field that isn't used
-pub instr_fault-known : (raw : Bool) (bytes : List ℕ) (l : Layout) (r : Reading) (unused : Bool) → layout_of (slice_index bytes 0) ≡ Some l
+pub instr_fault-known : (v : Version) (raw : Bool) (bytes : List ℕ) (l : Layout) (r : Reading) (unused : Bool) → layout_at v (slice_index bytes 0) ≡ Some l
     → are_registers (registers_at bytes) ≡ true
-    → IsReadFrom bytes r → names_registers l.ending r ≡ true → is_unused_zero l r ≡ unused → instr_fault raw bytes ≡ then_some (not unused) faults.UnusedField
+    → IsReadFrom bytes r → names_registers l.ending r ≡ true → is_unused_zero l r ≡ unused → instr_fault v raw bytes ≡ then_some (not unused) faults.UnusedField
 unfolding instr_fault
-instr_fault-known raw bytes l r unused h good from named e =
+instr_fault-known v raw bytes l r unused h good from named e =
     let read = as_read bytes r from in
     let there : names_registers l.ending (reading_of bytes) ≡ true = sym (ap (names_registers l.ending) read) ∙ named in
     let same : is_unused_zero l (reading_of bytes) ≡ unused = sym (ap (is_unused_zero l) read) ∙ e in
@@ -120,7 +122,7 @@ IfSome-at None P x e h = absurd cc
 IfSome-at (Some y) P x e h = let same : y ≡ x = cc in subst P same h
 
 -- bytes of an unknown opcode are in range under the raw mark
-pub unknown_in_range : (raw : Bool) (bytes : List ℕ) → raw ≡ true → length bytes ≡ 16 → IsBytes bytes → layout_of (slice_index bytes 0) ≡ None
-    → is_instr_in_range raw (instr.Unknown bytes) ≡ true
-unknown_in_range raw bytes marked len fits unknown =
+pub unknown_in_range : (v : Version) (raw : Bool) (bytes : List ℕ) → raw ≡ true → length bytes ≡ 16 → IsBytes bytes → layout_at v (slice_index bytes 0) ≡ None
+    → is_instr_in_range v raw (instr.Unknown bytes) ≡ true
+unknown_in_range v raw bytes marked len fits unknown =
     and_from _ _ marked (and_from _ _ (eq-eqb (length bytes) 16 len) (and_from _ _ (list_all-from_IsBytes bytes fits) (rw unknown refl)))

@@ -6,6 +6,14 @@ use Rattle.zl_code.proofs.Common.{is_start_in_range, le-leb, length, length-appe
 use Rattle.zl_code.proofs.Common.{pieces, refl, slice_index, slot_bytes, slot_fault, slot_pieces, slots_at, spelling, start_bytes, start_fault, start_pieces}
 use Rattle.zl_code.proofs.Common.{starts_at, sym, true, ℕ, ◌*◌, ◌++◌, ◌+◌, ◌∙◌, ◌≡◌, ◌⊎◌}
 use Rattle.zl_code.specs.declared.image.DecodeFault.TheVariants as faults
+use Rattle.zl_code.specs.declared.image.Version.{Version}
+use Rattle.zl_code.specs.declared.image.Version.TheVariants as version
+use Rattle.zl_code.specs.Blocks.{are_blocks, marks_of}
+use Rattle.zl_code.specs.Jumps.{jump_of}
+use Rattle.zl_code.specs.Spells.{is_version, keep_blocks, version_at, version_number}
+use Rattle.zl_code.proofs.BlockBytes.{blocks_again}
+use Rattle.zl_code.proofs.Common.{Instr, leb-true, not, then_some, ◌≤◌}
+use Rattle.zl_code.proofs.Common.{if◌then◌else◌, ◌==◌}
 use Rattle.zl_code.proofs.ImageBytes.{IsBytes, number_of-bytes_of}
 use Rattle.zl_code.proofs.ImageNeeds.{needs_at, needs_fit}
 use Rattle.zl_code.proofs.ImageDeclared.{start_fits, slots_fit, read_start, read_slots}
@@ -19,6 +27,7 @@ use Rattle.zl_code.proofs.ImageInstr.{first_some-one}
 
 -- what was read of the bytes
 pub record IsRead (bytes : List ℕ) (i : Image) : Type 0 where
+  pub version : i.version ≡ version_at bytes
   pub raw : i.raw ≡ is_raw_at bytes
   pub memory : i.memory ≡ number_at bytes 8 4
   pub budget : i.budget ≡ number_at bytes 12 4
@@ -29,7 +38,8 @@ pub record IsRead (bytes : List ℕ) (i : Image) : Type 0 where
   pub slots : map slot_bytes i.slots ≡ slot_pieces bytes
   pub slots_in_range : list_all is_slot_in_range i.slots ≡ true
   pub code : map instr_bytes i.code ≡ code_pieces bytes
-  pub code_in_range : list_all (is_instr_in_range i.raw) i.code ≡ true
+  pub code_in_range : list_all (is_instr_in_range i.version i.raw) i.code ≡ true
+  pub blocks : are_blocks (marks_of i.code) (map jump_of i.code) ≡ true
 
 -- as many as there are pieces
 counted : {X : Type 0} (size n : ℕ) (spell : X → List ℕ) (xs : List X) (bytes : List ℕ) → map spell xs ≡ pieces size n bytes → length xs ≡ n
@@ -37,6 +47,7 @@ counted size n spell xs bytes h = sym (length-map xs spell) ∙ ap length h ∙ 
 
 header_read : (bytes : List ℕ) (i : Image) → IsRead bytes i → HasHeader bytes i
 header_read bytes i r = record {
+  version = r.version;
   raw = r.raw;
   memory = r.memory;
   budget = r.budget;
@@ -58,7 +69,7 @@ read_in_range bytes i h r =
     let slots : nat_le (length i.slots) 8 ≡ true = ap (λ (n : ℕ). nat_le n 8) has.slots ∙ g.slots in
     and_from _ _ count (and_from _ _ memory
     (and_from _ _ least (and_from _ _ most (and_from _ _ r.needs_in_range
-    (and_from _ _ starts (and_from _ _ slots (and_from _ _ r.starts_in_range (and_from _ _ r.slots_in_range r.code_in_range))))))))
+    (and_from _ _ starts (and_from _ _ slots (and_from _ _ r.starts_in_range (and_from _ _ r.slots_in_range (and_from _ _ r.code_in_range r.blocks)))))))))
 
 -- the parts of the bytes behind the header
 behind_read : (bytes : List ℕ) (i : Image) → HeaderFits bytes → IsRead bytes i
@@ -94,6 +105,12 @@ spells_read bytes i fits none r =
       in_range = read_in_range bytes i h r;
     }
 
+-- as many instructions as an image may have
+pub few_read : (bytes : List ℕ) (code : List Instr) → header_fault bytes ≡ None → map instr_bytes code ≡ code_pieces bytes → length code ≤ 4096
+few_read bytes code none h =
+    let few = leb-true (count_at bytes) 4096 (header_ranges bytes (header_fits bytes none).in_range).count in
+    omega (arith, few, counted 16 (count_at bytes) instr_bytes code _ h)
+
 -- ---- what the header counts
 
 -- the pieces by the numbers that were read
@@ -124,13 +141,28 @@ pub first_fault-slots : (bytes : List ℕ) (fault : DecodeFault) → header_faul
 unfolding first_fault
 first_fault-slots bytes fault none starts h = rw (none, starts, h) refl
 
-pub first_fault-code : (bytes : List ℕ) (fault : Option DecodeFault) → header_fault bytes ≡ None → first_some (map start_fault (start_pieces bytes)) ≡ None
+pub first_fault-code : (bytes : List ℕ) (fault : DecodeFault) → header_fault bytes ≡ None → first_some (map start_fault (start_pieces bytes)) ≡ None
     → first_some (map slot_fault (slot_pieces bytes)) ≡ None
-    → first_some (map (instr_fault (is_raw_at bytes)) (code_pieces bytes)) ≡ fault → first_fault bytes ≡ fault
+    → first_some (map (instr_fault (version_at bytes) (is_raw_at bytes)) (code_pieces bytes)) ≡ Some fault → first_fault bytes ≡ Some fault
 unfolding first_fault
-first_fault-code bytes fault none starts slots h = rw (none, starts, slots, h) (first_some-one fault)
+first_fault-code bytes fault none starts slots h = rw (none, starts, slots, h) refl
+
+pub first_fault-blocks : (bytes : List ℕ) (keep : Bool) → header_fault bytes ≡ None → first_some (map start_fault (start_pieces bytes)) ≡ None
+    → first_some (map slot_fault (slot_pieces bytes)) ≡ None
+    → first_some (map (instr_fault (version_at bytes) (is_raw_at bytes)) (code_pieces bytes)) ≡ None
+    → keep_blocks (version_at bytes) (code_pieces bytes) ≡ keep → first_fault bytes ≡ then_some (not keep) faults.BadBlock
+unfolding first_fault
+first_fault-blocks bytes keep none starts slots code h = rw (none, starts, slots, code, h) (first_some-one (then_some (not keep) faults.BadBlock))
 
 -- ---- what is spelled so is read
+
+version_again : (v : Version) → (if version_number v == 2 then version.Two else version.One) ≡ v
+version_again version.One = refl
+version_again version.Two = refl
+
+version_known : (v : Version) → is_version (version_number v) ≡ true
+version_known version.One = refl
+version_known version.Two = refl
 
 mark_again : (raw : Bool) → eqb (cond raw 1 0) 1 ≡ raw
 mark_again true = refl
@@ -141,10 +173,10 @@ mark_small true = refl
 mark_small false = refl
 
 module _ (i : Image) (r : Ranges i) where
-  code_parts : Parted 16 instr_bytes (instr_fault i.raw) read_instr i.code []
+  code_parts : Parted 16 instr_bytes (instr_fault i.version i.raw) (read_instr i.version) i.code []
   code_parts =
-      parted 16 instr_bytes (instr_fault i.raw) read_instr (is_instr_in_range i.raw)
-      (λ x h. let f = instr_fits i.raw x h in record { len = f.len; fault_is = f.fault; again = f.again }) i.code [] r.code
+      parted 16 instr_bytes (instr_fault i.version i.raw) (read_instr i.version) (is_instr_in_range i.version i.raw)
+      (λ x h. let f = instr_fits i.version i.raw x h in record { len = f.len; fault_is = f.fault; again = f.again }) i.code [] r.code
 
   slots_parts : Parted 8 slot_bytes slot_fault read_slots i.slots (flat_map instr_bytes i.code)
   slots_parts =
@@ -170,7 +202,7 @@ module _ (i : Image) (r : Ranges i) where
   spelled_fits = record {
     long = omega arith;
     front = refl;
-    version = refl;
+    version = version_known i.version;
     in_range =
         rw (
           mark_small i.raw,
@@ -221,33 +253,36 @@ module _ (i : Image) (r : Ranges i) where
 
   spelled_no_fault : first_fault (spelling i) ≡ None
   spelled_no_fault =
-      first_fault-code (spelling i) None (no_header_fault (spelling i) spelled_fits)
+      first_fault-blocks (spelling i) true (no_header_fault (spelling i) spelled_fits)
       (ap (λ (p : List (List ℕ)). first_some (map start_fault p)) starts_again ∙ starts_parts.no_fault)
       (ap (λ (p : List (List ℕ)). first_some (map slot_fault p)) slots_again ∙ slots_parts.no_fault)
-      ((λ k. first_some (map (instr_fault (mark_again i.raw k)) (code_again k))) ∙ code_parts.no_fault)
+      ((λ k. first_some (map (instr_fault (version_again i.version k) (mark_again i.raw k)) (code_again k))) ∙ code_parts.no_fault)
+      ((λ k. keep_blocks (version_again i.version k) (code_again k)) ∙ (blocks_again i.version i.raw i.code r.code ∙ r.blocks))
 
 -- the image that is read from bytes
 image_at : List ℕ → Image
 image_at bytes = record {
+  version = version_at bytes;
   raw = is_raw_at bytes;
   memory = number_at bytes 8 4;
   budget = number_at bytes 12 4;
   needs = needs_at (slice_index bytes 16);
   starts = map read_start (start_pieces bytes);
   slots = map read_slots (slot_pieces bytes);
-  code = map read_instr (code_pieces bytes);
+  code = map (read_instr (version_at bytes)) (code_pieces bytes);
 }
 
 image_again : (i : Image) → Ranges i → image_at (spelling i) ≡ i
 unfolding image_at
 image_again i r = λ k. record {
+  version = version_again i.version k;
   raw = mark_again i.raw k;
   memory = memory_again i r k;
   budget = budget_again i r k;
   needs = (needs_fit i.needs r.needs).again k;
   starts = (ap (map read_start) (starts_again i r) ∙ (starts_parts i r).again) k;
   slots = (ap (map read_slots) (slots_again i r) ∙ (slots_parts i r).again) k;
-  code = (ap (map read_instr) (code_again i r) ∙ (code_parts i r).again) k;
+  code = ((λ j. map (read_instr (version_again i.version j)) (code_again i r j)) ∙ (code_parts i r).again) k;
 }
 
 -- bytes that spell an image have no fault

@@ -4,6 +4,9 @@ use Rattle.zl_code.proofs.Common.{false, fault_by, first_some, instr_bytes, inst
 use Rattle.zl_code.proofs.Common.{is_some, is_unused_zero, layout_of, length, list_all, local_bytes, local_parts, ltb-true, names_registers, nat_lt, not}
 use Rattle.zl_code.proofs.Common.{reading_of, refl, replicate, row_bytes, seven, slice_index, suc, sym, then_some, true, zero, ℕ, ◌%◌, ◌&&◌, ◌++◌, ◌<◌, ◌==◌}
 use Rattle.zl_code.proofs.Common.{◌∙◌, ◌∷◌, ◌≡◌}
+use Rattle.zl_code.proofs.Common.{call_row}
+use Rattle.zl_code.specs.Instructions.{is_known, layout_at}
+use Rattle.zl_code.specs.declared.image.Version.{Version}
 use Rattle.zl_code.specs.declared.instr.Instr.TheVariants as instr
 use Rattle.zl_code.specs.declared.instr.LocalInstr.TheVariants as local
 use Rattle.zl_code.specs.declared.image.DecodeFault.TheVariants as faults
@@ -14,11 +17,11 @@ use Rattle.zl_code.proofs.ImageInstr.{row_bytes-read}
 
 -- ---- an instruction in range
 
-pub instr_bytes-no_fault : (raw : Bool) (i : Instr) → is_instr_in_range raw i ≡ true → instr_fault raw (instr_bytes i) ≡ None
-instr_bytes-no_fault raw i h = (instr_fits raw i h).fault
+pub instr_bytes-no_fault : (v : Version) (raw : Bool) (i : Instr) → is_instr_in_range v raw i ≡ true → instr_fault v raw (instr_bytes i) ≡ None
+instr_bytes-no_fault v raw i h = (instr_fits v raw i h).fault
 
-pub length-instr_bytes : (raw : Bool) (i : Instr) → is_instr_in_range raw i ≡ true → length (instr_bytes i) ≡ 16
-length-instr_bytes raw i h = (instr_fits raw i h).len
+pub length-instr_bytes : (v : Version) (raw : Bool) (i : Instr) → is_instr_in_range v raw i ≡ true → length (instr_bytes i) ≡ 16
+length-instr_bytes v raw i h = (instr_fits v raw i h).len
 
 -- ---- each of them is a byte
 
@@ -73,14 +76,14 @@ IsBytes-call i h =
     IsBytes-cons _ _ (ltb-true _ 256 (opcode_is_byte i.name))
     (IsBytes-append i.registers i.last (IsBytes-registers i.registers w.registers) (IsBytes-all (λ b. nat_lt b 256) (λ b e. ltb-true b 256 e) i.last w.bytes))
 
-pub IsBytes-instr_bytes : (raw : Bool) (i : Instr) → is_instr_in_range raw i ≡ true → IsBytes (instr_bytes i)
-IsBytes-instr_bytes raw (instr.Local i) h = IsBytes-local i h
-IsBytes-instr_bytes raw (instr.Call i) h = IsBytes-call i h
-IsBytes-instr_bytes raw (instr.Unknown bytes) h =
-    let marked = and_parts raw ((length bytes == 16) && (list_all (λ b. nat_lt b 256) bytes && not (is_some (layout_of (slice_index bytes 0))))) h in
-    let sixteen = and_parts (length bytes == 16) (list_all (λ b. nat_lt b 256) bytes && not (is_some (layout_of (slice_index bytes 0)))) marked.1 in
+pub IsBytes-instr_bytes : (v : Version) (raw : Bool) (i : Instr) → is_instr_in_range v raw i ≡ true → IsBytes (instr_bytes i)
+IsBytes-instr_bytes v raw (instr.Local i) h = IsBytes-local i (and_parts (is_known v (local_parts i).opcode) (is_local_in_range i) h).1
+IsBytes-instr_bytes v raw (instr.Call i) h = IsBytes-call i (and_parts (is_known v (call_row i.name).opcode) (is_call_in_range i) h).1
+IsBytes-instr_bytes v raw (instr.Unknown bytes) h =
+    let marked = and_parts raw ((length bytes == 16) && (list_all (λ b. nat_lt b 256) bytes && not (is_some (layout_at v (slice_index bytes 0))))) h in
+    let sixteen = and_parts (length bytes == 16) (list_all (λ b. nat_lt b 256) bytes && not (is_some (layout_at v (slice_index bytes 0)))) marked.1 in
     IsBytes-all (λ b. nat_lt b 256) (λ b e. ltb-true b 256 e) bytes
-    (and_parts (list_all (λ b. nat_lt b 256) bytes) (not (is_some (layout_of (slice_index bytes 0)))) sixteen.1).0
+    (and_parts (list_all (λ b. nat_lt b 256) bytes) (not (is_some (layout_at v (slice_index bytes 0)))) sixteen.1).0
 
 -- ---- bytes of a known opcode without a fault
 
@@ -90,9 +93,9 @@ pub record IsRow (bytes : List ℕ) (l : Layout) : Type 0 where
   pub named : names_registers l.ending (reading_of bytes) ≡ true
   pub unused : is_unused_zero l (reading_of bytes) ≡ true
 
-pub no_fault-row : (raw : Bool) (bytes : List ℕ) (l : Layout) → layout_of (slice_index bytes 0) ≡ Some l → instr_fault raw bytes ≡ None → IsRow bytes l
+pub no_fault-row : (v : Version) (raw : Bool) (bytes : List ℕ) (l : Layout) → layout_at v (slice_index bytes 0) ≡ Some l → instr_fault v raw bytes ≡ None → IsRow bytes l
 unfolding instr_fault
-no_fault-row raw bytes l at none =
+no_fault-row v raw bytes l at none =
     let p = by (are_registers (reading_of bytes).registers) (names_registers l.ending (reading_of bytes)) (is_unused_zero l (reading_of bytes))
     (sym (ap (fault_by raw (reading_of bytes)) at) ∙ none) in
     record { registers = p.0; named = p.1; unused = p.2 }
@@ -105,8 +108,8 @@ no_fault-row raw bytes l at none =
     by false b c h = absurd cc
 
 -- the bytes are those of what is read from them
-pub row_bytes-again : (raw : Bool) (bytes : List ℕ) (l : Layout) → length bytes ≡ 16 → IsBytes bytes → layout_of (slice_index bytes 0) ≡ Some l
-    → instr_fault raw bytes ≡ None → row_bytes (slice_index bytes 0) l (reading_of bytes) ≡ bytes
-row_bytes-again raw bytes l len fits at none =
+pub row_bytes-again : (v : Version) (raw : Bool) (bytes : List ℕ) (l : Layout) → length bytes ≡ 16 → IsBytes bytes → layout_at v (slice_index bytes 0) ≡ Some l
+    → instr_fault v raw bytes ≡ None → row_bytes (slice_index bytes 0) l (reading_of bytes) ≡ bytes
+row_bytes-again v raw bytes l len fits at none =
     row_bytes-read bytes (slice_index bytes 0) l (reading_of bytes) _ len fits refl (record { registers = refl; imm = refl; target = refl; places = refl })
-    (no_fault-row raw bytes l at none).unused refl
+    (no_fault-row v raw bytes l at none).unused refl

@@ -1,4 +1,5 @@
 -- Which handles and policies a boot asks of a checked program, by computation in small worlds.
+use Rattle.zl_code.specs.Image.{blank_image}
 use Rattle.zl_code.proofs.Common.{Action, Bool, BootCause, Condition, Grant, Kind, Library, List, None, Option, Program, Some, Start, Statement, World, []}
 use Rattle.zl_code.proofs.Common.{boot_effect, boot_fault, false, origin, refl, replicate, rights_of, true, ℕ, ◌++◌, ◌∷◌, ◌≡◌}
 use Rattle.zl_rights.specs.declared.kind.Kind.TheVariants as kind
@@ -17,7 +18,7 @@ use Rattle.zl_code.proofs.RowsBoot.{with_default, with_rights}
 abbrev program_with : Bool → List Condition → List Start → Program
 program_with checked needs starts = record {
   checked = checked;
-  image = record { raw = false; memory = 0; budget = 1; needs = needs; starts = starts; slots = []; code = instr.Local (local.Const 2 1) ∷ [] };
+  image = record blank_image { needs = needs; starts = starts; code = instr.Local (local.Const 2 1) ∷ [] };
 }
 
 abbrev start : Option Kind → ℕ → Start

@@ -237,7 +237,7 @@ readable = with_ends both_ends (message (11 ∷ 12 ∷ []) (event_with FIRST_RIG
 abbrev with_memory : World
 with_memory = record readable {
   processes =
-      (2, record (process_of [] both_ends None) { cpu = record { counter = 0; registers = replicate 32 9; memory = 1 ∷ 2 ∷ 3 ∷ 4 ∷ []; slots = [] } }) ∷ [];
+      (2, record (process_of [] both_ends None) { cpu = record { counter = 0; registers = replicate 32 9; memory = 1 ∷ 2 ∷ 3 ∷ 4 ∷ []; slots = []; counters = [] } }) ∷ [];
 }
 
 -- the world after the first message was read

@@ -1,4 +1,5 @@
 -- The first fault of some bytes, by computation.
+use Rattle.zl_code.specs.Blocks.{all_nest, all_stay, blocks_at}
 use Rattle.zl_code.proofs.Common.{DecodeFault, List, None, Some, [], first_fault, header_fault, instr_fault, pieces, refl, replicate, row_of, slice_set}
 use Rattle.zl_code.proofs.Common.{slot_fault, start_fault, take, ℕ, ◌++◌, ◌∷◌, ◌≡◌}
 use Rattle.zl_code.specs.declared.image.DecodeFault.TheVariants as fault
@@ -30,7 +31,7 @@ rows_of_no_fault :
     (first_fault empty ≡ None)
     -- An image of one instruction.
     × (first_fault exit ≡ None)
-unfolding first_fault header_fault start_fault slot_fault instr_fault pieces row_of
+unfolding first_fault header_fault start_fault slot_fault instr_fault pieces row_of all_nest all_stay blocks_at
 rows_of_no_fault = (refl, refl)
 
 -- ---- one fault
@@ -48,8 +49,12 @@ rows_of_one_fault :
     × (FirstIs (exit ++ 0 ∷ []) fault.Length)
     -- The last byte of the magic is another.
     × (FirstIs (with_byte 3 0x43 exit) fault.Magic)
-    -- The version is 2.
-    × (FirstIs (with_byte 4 2 exit) fault.Version)
+    -- The version is 3.
+    × (FirstIs (with_byte 4 3 exit) fault.Version)
+    -- The version is 0.
+    × (FirstIs (with_byte 4 0 exit) fault.Version)
+    -- Version 2 is one.
+    × (first_fault (with_byte 4 2 exit) ≡ None)
     -- The budget is 0.
     × (FirstIs (with_byte 12 0 exit) fault.BadHeader)
     -- The budget is 1,000,001, one above the largest.
@@ -80,8 +85,8 @@ rows_of_one_fault :
     × (FirstIs (with_byte 28 1 exit) fault.UnusedField)
     -- process_exit has no target, and the last byte of its field is set.
     × (FirstIs (with_byte 35 1 exit) fault.UnusedField)
-unfolding first_fault header_fault start_fault slot_fault instr_fault pieces row_of
-rows_of_one_fault = (refl, refl, refl, refl, refl, refl, refl, refl, refl, refl, refl, refl, refl, refl, refl, refl, refl, refl, refl, refl, refl, refl)
+unfolding first_fault header_fault start_fault slot_fault instr_fault pieces row_of all_nest all_stay blocks_at
+rows_of_one_fault = (refl, refl, refl, refl, refl, refl, refl, refl, refl, refl, refl, refl, refl, refl, refl, refl, refl, refl, refl, refl, refl, refl, refl, refl)
 
 -- ---- two faults at once
 
@@ -89,9 +94,9 @@ rows_of_two_faults_at_once :
     -- Short before magic.
     (FirstIs (take 19 (with_byte 0 0 exit)) fault.Short)
     -- Magic before version.
-    × (FirstIs (with_byte 0 0 (with_byte 4 2 exit)) fault.Magic)
+    × (FirstIs (with_byte 0 0 (with_byte 4 3 exit)) fault.Magic)
     -- Version before the fields of the header.
-    × (FirstIs (with_byte 4 2 (with_byte 12 0 exit)) fault.Version)
+    × (FirstIs (with_byte 4 3 (with_byte 12 0 exit)) fault.Version)
     -- The fields of the header before the length.
     × (FirstIs (with_byte 12 0 (take 35 exit)) fault.BadHeader)
     -- The length before an instruction.

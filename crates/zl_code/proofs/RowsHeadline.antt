@@ -1,5 +1,6 @@
 -- The words of the headline on worked examples: where runs begin, which answers are faults, which ends are own, what counts against a budget,
 -- who is covered, by the boot or by a call, who never is, and what going well refuses.
+use Rattle.zl_code.specs.Image.{blank_image}
 use Rattle.zl_code.proofs.Common.{BY_POLICY, Entry, EndsItself, GoesWell, HasNoFault, Image, IsBoot, IsNotStuck, IsSizedBoot}
 use Rattle.zl_code.proofs.Common.{KeepsBudget, KeepsProcesses, Library, List, MayEnd, None, Option, Process, Program, Runs, Some, Start}
 use Rattle.zl_code.proofs.Common.{Statement, TraceItem, World, [], ap, append_assoc, are_declared, arith, boot_effect, false, flat_map}
@@ -178,7 +179,7 @@ stored_is_never_covered = never_covered library 2 (record { checked = false; ima
 
 -- an image with this budget
 abbrev with_budget : ℕ → Image
-with_budget budget = record { raw = false; memory = 0; budget = budget; needs = []; starts = []; slots = []; code = [] }
+with_budget budget = record blank_image { budget = budget }
 
 -- three instructions in one item, and the exit
 abbrev three_and_exit : List TraceItem

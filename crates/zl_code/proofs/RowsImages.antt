@@ -1,4 +1,6 @@
 -- The table of instructions, and images with declarations and messages, by computation.
+use Rattle.zl_code.specs.Blocks.{all_nest, all_stay, blocks_at}
+use Rattle.zl_code.specs.Image.{blank_image}
 use Rattle.zl_code.proofs.Common.{DecodeFault, Image, List, None, Some, Spells, [], false, first_fault, header_fault, instr_fault, length, list_all}
 use Rattle.zl_code.proofs.Common.{local_parts, map, nat_le, pieces, refl, replicate, rights_of, row_of, rows, slice_set, slot_fault, start_fault, suc, true}
 use Rattle.zl_code.proofs.Common.{zero, ℕ, ◌++◌, ◌+◌, ◌∷◌, ◌≡◌}
@@ -17,8 +19,8 @@ numbers_from first zero = []
 numbers_from first (suc n) = first ∷ numbers_from (first + 1) n
 
 rows_of_the_table :
-    -- 25 local instructions and 24 calls, in the order of their opcodes.
-    (map (λ r. r.opcode) rows ≡ numbers_from 1 25 ++ numbers_from 64 24)
+    -- 27 local instructions and 24 calls, in the order of their opcodes.
+    (map (λ r. r.opcode) rows ≡ numbers_from 1 27 ++ numbers_from 64 24)
     -- None uses more than seven registers.
     × (list_all (λ r. nat_le (length r.fields) 7) rows ≡ true)
 rows_of_the_table = (refl, refl)
@@ -32,9 +34,7 @@ declared =
     ∷ 0 ∷ 0 ∷ 0 ∷ 1 ∷ 0x0f ∷ 0xf6 ∷ 3 ∷ 0 ∷ 12 ∷ 1 ∷ 2 ∷ replicate 13 0
 
 abbrev declared_image : Image
-declared_image = record {
-  raw = false;
-  memory = 0;
+declared_image = record blank_image {
   budget = 100;
   needs = condition.NewChannel ∷ condition.NewEvent ∷ condition.NewPort ∷ condition.NewProcess ∷ [];
   starts = record { kind = Some kind.Event; rights = rights_of 0x5000 } ∷ [];
@@ -43,7 +43,7 @@ declared_image = record {
 }
 
 declared_spelled : Spells declared declared_image
-unfolding local_parts
+unfolding local_parts all_nest all_stay blocks_at
 declared_spelled = record { same = refl; in_range = refl }
 
 -- the fault that is met first
@@ -92,6 +92,7 @@ messages_spelled : Spells messages (record declared_image {
   slots = [];
   code = instr.Call (sending (1 ∷ 2 ∷ 3 ∷ 4 ∷ []) (5 ∷ 6 ∷ [])) ∷ instr.Call (called name.ChanReadEtc (1 ∷ 2 ∷ 3 ∷ 4 ∷ 5 ∷ 6 ∷ 8 ∷ []) 8) ∷ [];
 })
+unfolding all_nest all_stay blocks_at
 messages_spelled = record { same = refl; in_range = refl }
 
 rows_of_messages :

@@ -1,4 +1,5 @@
 -- Each cause of the calls on jobs and processes, by computation in small worlds.
+use Rattle.zl_code.specs.Image.{blank_image}
 use Rattle.zl_code.proofs.Common.{Action, Body, Bool, CallName, Choice, Condition, Created, Gone, JobBody, Library, MANAGE_JOB, MANAGE_PROCESS, Map, None}
 use Rattle.zl_code.proofs.Common.{Outcome, ProcessBody, Program, Request, Site, Some, Values, Wants, World, [], body_of, close, condition_number}
 use Rattle.zl_code.proofs.Common.{default_rights_of, entry_at, false, get, job_create, negsuc, process_create, refl, refusal, replicate, site, true, ℕ, ◌^◌}
@@ -90,7 +91,7 @@ library = program_that false ∷ program_that true ∷ []
   where
     program_that : Bool → Program
     program_that checked =
-        record { checked = checked; image = record { raw = true; memory = 3; budget = 1; needs = condition.NewEvent ∷ []; starts = []; slots = []; code = [] } }
+        record { checked = checked; image = record blank_image { raw = true; memory = 3; needs = condition.NewEvent ∷ [] } }
 
 -- process 2 of the world is refused so, where these programs are there
 abbrev RefusesIn : World → Request → Outcome → Type 0
@@ -172,7 +173,7 @@ rows_of_process_create_2 :
     × (get with_created.processes 5
     ≡ Some (record {
       program = 1;
-      cpu = record { counter = 0; registers = replicate 32 0; memory = 0 ∷ 0 ∷ 0 ∷ []; slots = [] };
+      cpu = record { counter = 0; registers = replicate 32 0; memory = 0 ∷ 0 ∷ 0 ∷ []; slots = []; counters = [] };
       state = Created;
       handles = [];
       last = None;

@@ -1,4 +1,5 @@
 -- Each cause and effect of the calls that start, kill and set policies, by computation in small worlds.
+use Rattle.zl_code.specs.Image.{blank_image}
 use Rattle.zl_code.proofs.Common.{Blocked, Body, Bool, CallName, Choice, Created, DESTROY, Ended, Entry, JobBody, Library, List, Map, None, Outcome}
 use Rattle.zl_code.proofs.Common.{Process, ProcessBody, Program, Ready, Refused, Request, SET_POLICY, SignalOf, Site, Some, Start, State, TRANSFER, Values}
 use Rattle.zl_code.proofs.Common.{WRITE, Wants, World, [], action_number, body_of, condition_number, default_rights_of, entry_at, false, job_set_policy}
@@ -29,13 +30,13 @@ library = program_that false [] ∷ program_that true (record { kind = Some kind
   where
     program_that : Bool → List Start → Program
     program_that checked starts =
-        record { checked = checked; image = record { raw = true; memory = 0; budget = 1; needs = []; starts = starts; slots = []; code = [] } }
+        record { checked = checked; image = record blank_image { raw = true; starts = starts } }
 
 -- process 5, which is to run the program, in this state and with this table
 abbrev child_of : ℕ → State → Map Entry → Process
 child_of program state handles = record {
   program = program;
-  cpu = record { counter = 0; registers = replicate 32 0; memory = []; slots = [] };
+  cpu = record { counter = 0; registers = replicate 32 0; memory = []; slots = []; counters = [] };
   state = state;
   handles = handles;
   last = None;

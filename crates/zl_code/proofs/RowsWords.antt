@@ -1,4 +1,5 @@
 -- Small worlds for worked examples, and what is told of them.
+use Rattle.zl_code.specs.Image.{blank_image}
 use Rattle.zl_code.proofs.Common.{Action, CallName, Choice, Entry, EventBody, Instr, JobBody, Kind, Library, List, Map, None, Option, Outcome, Process}
 use Rattle.zl_code.proofs.Common.{ProcessBody, Ready, Request, Site, Some, State, TraceItem, World, [], false, get, refusal, replicate, rights_of, suc, take}
 use Rattle.zl_code.proofs.Common.{Object, map, true, zero, ℕ, ◌++◌, ◌∷◌, ◌≡◌}
@@ -62,13 +63,13 @@ Passes w request = refusal [] w 2 request ≡ None
 
 -- a library of one raw program
 abbrev pub program_of : List Instr → Library
-program_of code = record { checked = false; image = record { raw = true; memory = 0; budget = 1; needs = []; starts = []; slots = []; code = code } } ∷ []
+program_of code = record { checked = false; image = record blank_image { raw = true; code = code } } ∷ []
 
 -- a ready process with these registers from the first on, these handles, and this value removed last
 abbrev pub process_of : List ℕ → Map Entry → Option ℕ → Process
 process_of registers handles last = record {
   program = 0;
-  cpu = record { counter = 0; registers = take 32 (registers ++ replicate 32 0); memory = []; slots = [] };
+  cpu = record { counter = 0; registers = take 32 (registers ++ replicate 32 0); memory = []; slots = []; counters = [] };
   state = Ready;
   handles = handles;
   last = last;

@@ -1,6 +1,7 @@
 -- Images with the same fields are the same.
 use Rattle.zl_code.proofs.Common.{Image, IsTrue, [], body_bytes, bytes_of, if◌then◌else◌, is_in_range, length, magic, needs_byte, refl, spelling, ◌++◌, ◌+◌}
 use Rattle.zl_code.proofs.Common.{◌∷◌, ◌≡◌}
+use Rattle.zl_code.specs.Spells.{version_number}
 use Rattle.zl_code.specs.Same.{DeclaresSame, HasSameHeader, HasSameNeeds, HaveSameBytes}
 use Rattle.zl_code.proofs.ImageWhole.{spells_one}
 
@@ -11,7 +12,7 @@ same_byte i j n = λ k. (if n.channels k then 1 else 0) + ((if n.events k then 2
 same_spelling : (i j : Image) → HasSameHeader i j → DeclaresSame i j → HaveSameBytes i.code j.code → spelling i ≡ spelling j
 same_spelling i j h d code = λ k.
     (magic
-    ++ ((1 ∷ (if h.raw k then 1 else 0) ∷ [])
+    ++ ((version_number (h.version k) ∷ (if h.raw k then 1 else 0) ∷ [])
     ++ (bytes_of 2 (code.count k)
     ++ (bytes_of 4 (h.memory k)
     ++ (bytes_of 4 (h.budget k)

@@ -1,4 +1,6 @@
 -- The stored run: its bytes, its boot world and its history, by computation.
+use Rattle.zl_code.specs.Blocks.{all_nest, all_stay, blocks_at}
+use Rattle.zl_code.specs.Image.{blank_image}
 use Rattle.zl_code.proofs.Common.{Choice, Ended, Image, IsBoot, IsLegalHistory, Library, List, Refused, Settles-by, Some, Spells, Statement, TraceItem, Values}
 use Rattle.zl_code.proofs.Common.{World, [], boot_effect, boot_fault, false, local_parts, origin, pos, refl, settled_in, true, ℕ, ◌∷◌, ◌≡◌}
 use Rattle.zl_rights.specs.declared.status.Status.TheVariants as status
@@ -23,13 +25,9 @@ bytes =
     ∷ 0x40 ∷ 2 ∷ 4 ∷ 0 ∷ 0 ∷ 0 ∷ 0 ∷ 0 ∷ 0 ∷ 0 ∷ 0 ∷ 0 ∷ 0 ∷ 0 ∷ 0 ∷ 0 ∷ 0x53 ∷ 0 ∷ 0 ∷ 0 ∷ 0 ∷ 0 ∷ 0 ∷ 0 ∷ 0 ∷ 0 ∷ 0 ∷ 0 ∷ 0 ∷ 0 ∷ 0 ∷ 0 ∷ []
 
 abbrev pub image : Image
-image = record {
+image = record blank_image {
   raw = true;
-  memory = 0;
   budget = 100;
-  needs = [];
-  starts = [];
-  slots = [];
   code =
       instr.Call (called name.EventCreate (2 ∷ 3 ∷ []) 0)
       ∷ instr.Local (local.Const 5 8)
@@ -44,7 +42,7 @@ image = record {
 
 -- The 148 bytes are those of the image of eight instructions.
 bytes_spell_image : Spells bytes image
-unfolding local_parts
+unfolding local_parts all_nest all_stay blocks_at
 bytes_spell_image = record { same = refl; in_range = refl }
 
 -- ---- its run

@@ -5,6 +5,8 @@ use Rattle.zl_rights.specs.Common.{condition_number}
 use Rattle.zl_rights.specs.Numbers.{all_makings}
 use Rattle.zl_rights.specs.declared.policy.Condition.{Condition}
 use Rattle.zl_rights.specs.declared.policy.Condition.TheVariants as condition
+use Rattle.zl_code.specs.declared.image.Version.{Version}
+use Rattle.zl_code.specs.declared.image.Version.TheVariants as version
 use Rattle.zl_code.specs.declared.image.Start.{Start}
 use Rattle.zl_code.specs.declared.image.SlotArray.{SlotArray}
 use Rattle.zl_code.specs.declared.image.Needs.{Needs}
@@ -15,6 +17,8 @@ use Rattle.zl_code.specs.declared.instr.CallInstr.{CallInstr}
 
 -- a program as it is loaded: its instructions, and what it declares
 pub record Image : Type 0 where
+  -- of the format of its bytes
+  pub version : Version
   -- unknown opcodes may stand
   pub raw : Bool
   -- bytes of data memory
@@ -26,6 +30,10 @@ pub record Image : Type 0 where
   pub starts : List Start
   pub slots : List SlotArray
   pub code : List Instr
+
+-- an image of version 1 without instructions, which declares nothing and has the budget 1
+abbrev pub blank_image : Image
+blank_image = record { version = version.One; raw = false; memory = 0; budget = 1; needs = []; starts = []; slots = []; code = [] }
 
 -- an image that processes can run, as a checked program or not
 pub record Program : Type 0 where

@@ -1,5 +1,7 @@
 -- Where a local instruction jumps.
 use Rattle.std.specs.Prelude.{ℕ, Option, Some, None}
+use Rattle.zl_code.specs.declared.instr.Instr.{Instr}
+use Rattle.zl_code.specs.declared.instr.Instr.TheVariants as instr
 use Rattle.zl_code.specs.declared.instr.LocalInstr.{LocalInstr}
 use Rattle.zl_code.specs.declared.instr.LocalInstr.TheVariants as local
 
@@ -15,3 +17,8 @@ jump (local.JumpNotBelow a imm target) = Some target
 jump (local.JumpHas a imm target) = Some target
 jump (local.JumpHasNot a imm target) = Some target
 jump _ = None
+
+-- the same of an instruction that may be a call
+abbrev pub jump_of : Instr → Option ℕ
+jump_of (instr.Local x) = jump x
+jump_of _ = None

@@ -13,6 +13,14 @@ most_memory = 65536
 abbrev pub most_budget : ℕ
 most_budget = 1000000
 
+-- the most blocks that an instruction is in
+abbrev pub most_blocks : ℕ
+most_blocks = 4
+
+-- the most times that a block is gone round
+abbrev pub most_turns : ℕ
+most_turns = 1000000
+
 -- the most handles with which a process starts
 abbrev pub most_starts : ℕ
 most_starts = 7

@@ -1,8 +1,9 @@
 -- The effect of one local instruction on a Cpu, row by row.
 use Rattle.zl_rights.specs.Common.{within, Cpu}
-use Rattle.std.specs.Prelude.{ℕ, ◌+◌, ◌-◌, ◌*◌, ◌/◌, ◌%◌, ◌^◌, Bool, not, ◌==◌, nat_lt, nat_le, List, ◌++◌, take, drop, length, Option, Some, None, if◌then◌else◌, bit_and, slice_index, slice_set, slice_get, bit_or, bit_xor}
+use Rattle.std.specs.Prelude.{ℕ, ◌+◌, ◌-◌, ◌*◌, ◌/◌, ◌%◌, ◌^◌, Bool, not, ◌==◌, nat_lt, nat_le, List, [], ◌∷◌, ◌++◌, take, drop, length, Option, Some, None, if◌then◌else◌, bit_and, slice_index, slice_set, slice_get, bit_or, bit_xor}
 use Rattle.zl_code.specs.declared.instr.LocalInstr.{LocalInstr}
 use Rattle.zl_code.specs.declared.instr.LocalInstr.TheVariants as local
+use Rattle.zl_code.specs.Limits.{most_blocks}
 use Rattle.zl_code.specs.Spells.{number_of, bytes_of}
 
 -- ---- registers
@@ -64,6 +65,23 @@ goes_to c target = record c { counter = target }
 abbrev pub goes_if : Cpu → Bool → ℕ → Cpu
 goes_if c test target = goes_to c (if test then target else c.counter + 1)
 
+-- ---- counted blocks
+
+-- a block begins with so many turns, if the process is in fewer than four
+abbrev pub enters : Cpu → ℕ → Option Cpu
+enters c count =
+    if nat_lt (length c.counters) most_blocks then Some (record c { counters = count ∷ c.counters; counter = c.counter + 1 }) else None
+
+-- the block goes on behind its rep, with one turn less, or is left
+abbrev pub turns_by : Cpu → ℕ → List ℕ → Option Cpu
+turns_by c rep [] = None
+turns_by c rep (n ∷ ns) =
+    if nat_lt 1 n then Some (record c { counters = (n - 1) ∷ ns; counter = rep + 1 }) else Some (record c { counters = ns; counter = c.counter + 1 })
+
+-- the same by all its counters
+abbrev pub turns : Cpu → ℕ → Option Cpu
+turns c rep = turns_by c rep c.counters
+
 -- ---- the rows
 
 -- the Cpu after the instruction, or nothing where it is stuck
@@ -93,3 +111,5 @@ local_effect (local.JumpBelow a imm target) c = Some (goes_if c (nat_lt (reg c a
 local_effect (local.JumpNotBelow a imm target) c = Some (goes_if c (not (nat_lt (reg c a) imm)) target)
 local_effect (local.JumpHas a imm target) c = Some (goes_if c (within imm (reg c a)) target)
 local_effect (local.JumpHasNot a imm target) c = Some (goes_if c (not (within imm (reg c a))) target)
+local_effect (local.Rep imm end) c = enters c imm
+local_effect (local.EndRep rep) c = turns c rep

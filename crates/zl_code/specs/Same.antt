@@ -14,8 +14,9 @@ pub record HasSameNeeds (i j : Image) : Type 0 where
   pub ports : is_among i.needs condition.NewPort ≡ is_among j.needs condition.NewPort
   pub processes : is_among i.needs condition.NewProcess ≡ is_among j.needs condition.NewProcess
 
--- they have the same mark, numbers and needs
+-- they have the same version, mark, numbers and needs
 pub record HasSameHeader (i j : Image) : Type 0 where
+  pub version : i.version ≡ j.version
   pub raw : i.raw ≡ j.raw
   pub memory : i.memory ≡ j.memory
   pub budget : i.budget ≡ j.budget

@@ -1,7 +1,7 @@
 -- The image grammar: the bytes of an image, field by field, and the first fault of bytes that are no image's.
 use Rattle.std.specs.Prelude.{ℕ, zero, suc, ◌≡◌, ◌+◌, ◌*◌, ◌/◌, ◌%◌, Bool, true, false, ◌&&◌, ◌||◌, not, ◌==◌, nat_lt, nat_le, List, [], ◌∷◌, ◌++◌, map, take, drop, replicate, length, slice_index, Option, Some, None, is_some, if◌then◌else◌, IsTrue}
 use Rattle.std.specs.Option.{option_map}
-use Rattle.std.specs.List.{flat_map, list_all, starts_with}
+use Rattle.std.specs.List.{flat_map, list_all, list_any, starts_with}
 use Rattle.std.specs.Bool.{then_some}
 use Rattle.zl_rights.specs.Common.{bits, within, default_rights_of, condition_number}
 use Rattle.zl_code.specs.First.{first_some}
@@ -11,6 +11,8 @@ use Rattle.zl_rights.specs.declared.policy.Condition.TheVariants as condition
 use Rattle.zl_rights.specs.Numbers.{all_kinds, kind_number, KNOWN_RIGHTS}
 use Rattle.zl_code.specs.declared.image.DecodeFault.{DecodeFault}
 use Rattle.zl_code.specs.declared.image.DecodeFault.TheVariants as fault
+use Rattle.zl_code.specs.declared.image.Version.{Version}
+use Rattle.zl_code.specs.declared.image.Version.TheVariants as version
 use Rattle.zl_code.specs.declared.image.Start.{Start}
 use Rattle.zl_code.specs.declared.image.SlotArray.{SlotArray}
 use Rattle.zl_code.specs.declared.layout.Ending.{Ending}
@@ -22,7 +24,11 @@ use Rattle.zl_code.specs.declared.instr.LocalInstr.TheVariants as local
 use Rattle.zl_code.specs.declared.instr.CallInstr.{CallInstr}
 use Rattle.zl_code.specs.Limits.{most_instructions, most_memory, most_budget, most_starts, most_slot_arrays, most_places, register_count, most_registers, most_handles, no_register, header_length, declaration_length, instruction_length}
 use Rattle.zl_code.specs.Image.{Image, is_among}
-use Rattle.zl_code.specs.Instructions.{Layout, call_row, layout_in, layout_of}
+use Rattle.zl_code.specs.Instructions.{Layout, call_row, is_known, layout_at, layout_in, layout_of}
+use Rattle.zl_code.specs.Jumps.{jump_of}
+use Rattle.zl_code.specs.Blocks.{are_blocks, marks_of}
+use Rattle.zl_code.specs.declared.blocks.Mark.{Mark}
+use Rattle.zl_code.specs.declared.blocks.Mark.TheVariants as mark
 
 -- ---- numbers as bytes
 
@@ -82,6 +88,8 @@ local_parts (local.JumpBelow a imm target) = parts 22 (a ∷ []) imm target
 local_parts (local.JumpNotBelow a imm target) = parts 23 (a ∷ []) imm target
 local_parts (local.JumpHas a imm target) = parts 24 (a ∷ []) imm target
 local_parts (local.JumpHasNot a imm target) = parts 25 (a ∷ []) imm target
+local_parts (local.Rep imm target) = parts 26 [] imm target
+local_parts (local.EndRep target) = parts 27 [] 0 target
 
 -- ---- the bytes of an instruction
 
@@ -177,12 +185,13 @@ is_call_in_range i =
     && (names_registers (call_row i.name).ending (call_reading i)
     && is_unused_zero (layout_in (call_row i.name)) (call_reading i)))
 
--- the fields of the instruction are in their ranges; an unknown opcode stands under the raw mark alone
-abbrev pub is_instr_in_range : Bool → Instr → Bool
-is_instr_in_range raw (instr.Local i) = is_local_in_range i
-is_instr_in_range raw (instr.Call i) = is_call_in_range i
-is_instr_in_range raw (instr.Unknown bytes) =
-    raw && ((length bytes == instruction_length) && (list_all (λ b. nat_lt b 256) bytes && not (is_some (layout_of (slice_index bytes 0)))))
+-- the version knows the instruction, whose fields are in their ranges; an opcode that it doesn't know stands under the
+-- raw mark alone
+abbrev pub is_instr_in_range : Version → Bool → Instr → Bool
+is_instr_in_range v raw (instr.Local i) = is_known v (local_parts i).opcode && is_local_in_range i
+is_instr_in_range v raw (instr.Call i) = is_known v (call_row i.name).opcode && is_call_in_range i
+is_instr_in_range v raw (instr.Unknown bytes) =
+    raw && ((length bytes == instruction_length) && (list_all (λ b. nat_lt b 256) bytes && not (is_some (layout_at v (slice_index bytes 0)))))
 
 -- ---- declarations
 
@@ -237,11 +246,16 @@ are_needs needs = ascend_from 2 (map condition_number needs)
 abbrev pub magic : List ℕ
 magic = 0x5a ∷ 0x4c ∷ 0x41 ∷ 0x42 ∷ []
 
--- the 20 bytes at the front: mark, count of instructions, memory, budget, needs, counts of start handles and slot arrays
-abbrev pub header_bytes : Bool → ℕ → ℕ → ℕ → List Condition → ℕ → ℕ → List ℕ
-header_bytes raw count memory budget needs starts slots =
+-- the number of a version
+abbrev pub version_number : Version → ℕ
+version_number version.One = 1
+version_number version.Two = 2
+
+-- the 20 bytes at the front: version, mark, count of instructions, memory, budget, needs, counts of start handles and slot arrays
+abbrev pub header_bytes : Version → Bool → ℕ → ℕ → ℕ → List Condition → ℕ → ℕ → List ℕ
+header_bytes v raw count memory budget needs starts slots =
     magic
-    ++ ((1 ∷ (if raw then 1 else 0) ∷ [])
+    ++ ((version_number v ∷ (if raw then 1 else 0) ∷ [])
     ++ (bytes_of 2 count
     ++ (bytes_of 4 memory
     ++ (bytes_of 4 budget
@@ -253,7 +267,7 @@ body_bytes starts slots code = flat_map start_bytes starts ++ (flat_map slot_byt
 
 -- the 20 bytes at the front of the image
 abbrev pub header : Image → List ℕ
-header i = header_bytes i.raw (length i.code) i.memory i.budget i.needs (length i.starts) (length i.slots)
+header i = header_bytes i.version i.raw (length i.code) i.memory i.budget i.needs (length i.starts) (length i.slots)
 
 -- the bytes of the image
 abbrev pub spelling : Image → List ℕ
@@ -271,7 +285,8 @@ is_in_range i =
     && (nat_le (length i.slots) most_slot_arrays
     && (list_all is_start_in_range i.starts
     && (list_all is_slot_in_range i.slots
-    && list_all (is_instr_in_range i.raw) i.code))))))))
+    && (list_all (is_instr_in_range i.version i.raw) i.code
+    && are_blocks (marks_of i.code) (map jump_of i.code))))))))))
 
 -- the bytes are those of the image
 pub record Spells (bytes : List ℕ) (i : Image) : Type 0 where
@@ -291,6 +306,14 @@ starts_at bytes = slice_index bytes 17
 -- how many slot arrays the header says that there are
 abbrev pub slots_at : List ℕ → ℕ
 slots_at bytes = slice_index bytes 18
+
+-- the number is that of a version
+abbrev pub is_version : ℕ → Bool
+is_version n = (n == 1) || (n == 2)
+
+-- the version of the bytes
+abbrev pub version_at : List ℕ → Version
+version_at bytes = if slice_index bytes 4 == 2 then version.Two else version.One
 
 -- whether the bytes have the raw mark
 abbrev pub is_raw_at : List ℕ → Bool
@@ -323,7 +346,7 @@ unfoldable pub header_fault : List ℕ → Option DecodeFault
 header_fault bytes = first_some (
     then_some (nat_lt (length bytes) header_length) fault.Short
     ∷ then_some (not (starts_with ◌==◌ bytes magic)) fault.Magic
-    ∷ then_some (not (slice_index bytes 4 == 1)) fault.Version
+    ∷ then_some (not (is_version (slice_index bytes 4))) fault.Version
     ∷ then_some (not (is_header_in_range bytes)) fault.BadHeader
     ∷ then_some (not (length bytes == length_at bytes)) fault.Length
     ∷ [])
@@ -370,7 +393,7 @@ registers_at bytes = take most_registers (drop 1 bytes)
 abbrev pub reading_of : List ℕ → Reading
 reading_of bytes = record { registers = registers_at bytes; imm = number_at bytes 8 4; target = number_at bytes 12 4; places = drop 8 bytes }
 
--- the fault of an instruction by the layout of its opcode; only the raw mark lets pass one that has none
+-- the fault of an instruction by the layout of its opcode, if the version knows that; only the raw mark lets pass one that has none
 abbrev pub fault_by : Bool → Reading → Option Layout → Option DecodeFault
 fault_by raw r None = then_some (not raw) fault.UnknownOp
 fault_by raw r (Some l) = first_some (
@@ -379,8 +402,8 @@ fault_by raw r (Some l) = first_some (
     ∷ [])
 
 -- the fault of the 16 bytes of an instruction
-unfoldable pub instr_fault : Bool → List ℕ → Option DecodeFault
-instr_fault raw bytes = fault_by raw (reading_of bytes) (layout_of (slice_index bytes 0))
+unfoldable pub instr_fault : Version → Bool → List ℕ → Option DecodeFault
+instr_fault v raw bytes = fault_by raw (reading_of bytes) (layout_at v (slice_index bytes 0))
 
 -- the last eight bytes by their ending, with 0 for what it doesn't use
 abbrev pub ending_bytes : Ending → Reading → List ℕ
@@ -417,11 +440,32 @@ code_pieces bytes =
     pieces instruction_length (count_at bytes)
     (drop (header_length + declaration_length * starts_at bytes + declaration_length * slots_at bytes) bytes)
 
+-- what the bytes of an instruction are to blocks
+abbrev pub mark_in : Version → List ℕ → Mark
+mark_in version.One bytes = mark.Plain
+mark_in version.Two bytes =
+    if slice_index bytes 0 == 26 then mark.Rep (number_at bytes 8 4) (number_at bytes 12 4)
+    else if slice_index bytes 0 == 27 then mark.EndRep (number_at bytes 12 4)
+    else mark.Plain
+
+-- the opcodes of jumps
+abbrev pub jumps : List ℕ
+jumps = 17 ∷ 18 ∷ 19 ∷ 20 ∷ 21 ∷ 22 ∷ 23 ∷ 24 ∷ 25 ∷ []
+
+-- where the bytes of an instruction jump
+abbrev pub jump_in : List ℕ → Option ℕ
+jump_in bytes = if list_any (λ opcode. slice_index bytes 0 == opcode) jumps then Some (number_at bytes 12 4) else None
+
+-- the bytes of the instructions keep the block rule
+abbrev pub keep_blocks : Version → List (List ℕ) → Bool
+keep_blocks v code = are_blocks (map (mark_in v) code) (map jump_in code)
+
 -- the fault that is met first, where bytes spell no image
 unfoldable pub first_fault : List ℕ → Option DecodeFault
 first_fault bytes = first_some (
     header_fault bytes
     ∷ first_some (map start_fault (start_pieces bytes))
     ∷ first_some (map slot_fault (slot_pieces bytes))
-    ∷ first_some (map (instr_fault (is_raw_at bytes)) (code_pieces bytes))
+    ∷ first_some (map (instr_fault (version_at bytes) (is_raw_at bytes)) (code_pieces bytes))
+    ∷ then_some (not (keep_blocks (version_at bytes) (code_pieces bytes))) fault.BadBlock
     ∷ [])

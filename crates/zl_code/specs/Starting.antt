@@ -7,12 +7,13 @@ use Rattle.zl_code.specs.Image.{Library, Program}
 
 -- the Cpu of a process before its first instruction: all is 0
 abbrev pub blank_cpu : Option Program → Cpu
-blank_cpu None = record { counter = 0; registers = replicate 32 0; memory = []; slots = [] }
+blank_cpu None = record { counter = 0; registers = replicate 32 0; memory = []; slots = []; counters = [] }
 blank_cpu (Some g) = record {
   counter = 0;
   registers = replicate 32 0;
   memory = replicate g.image.memory 0;
   slots = map (λ s. replicate s.length 0) g.image.slots;
+  counters = [];
 }
 
 -- a process that is to run the program, without handles

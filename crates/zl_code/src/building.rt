@@ -1,30 +1,27 @@
 //! An image under construction: an empty one, and then one thing after the other.
 
-ghost use Rattle.std.specs.Prelude.{◌≡◌, ◌≤◌, ◌<◌, ◌++◌, ◌∷◌, [], true, false, length, OnOk, OnErr, IsTrue};
+ghost use Rattle.std.specs.List.{list_all};
+ghost use Rattle.std.specs.Prelude.{◌≡◌, ◌≤◌, ◌<◌, ◌++◌, ◌∷◌, [], map, true, length, OnOk, OnErr, IsTrue};
+ghost use Rattle.zl_code.specs.Blocks.{are_blocks, marks_of};
+ghost use Rattle.zl_code.specs.Jumps.{jump_of};
 ghost use Rattle.zl_code.specs.Limits.{most_instructions, most_memory, most_budget, most_starts, most_slot_arrays};
-ghost use Rattle.zl_code.specs.Image.{needs_named};
+ghost use Rattle.zl_code.specs.Image.{blank_image, needs_named};
 ghost use Rattle.zl_code.specs.Spells.{is_start_in_range, is_slot_in_range, is_instr_in_range};
 
-use crate::image::{Image, Needs, SlotArray, Start};
+use crate::image::{Image, Needs, SlotArray, Start, Version};
 use crate::instr::Instr;
 use std::alloc::{AllocError, Global};
 use zl_rights::Condition;
 
 impl Image {
-    /// An image of no instruction that declares nothing: no raw mark, no data memory, and the
-    /// budget 1.
+    /// An image of version 1 without instructions that declares nothing: no raw mark, no data memory,
+    /// and the budget 1.
+    #[tactic(auto, unfolding(crate::specs::Blocks::all_nest, crate::specs::Blocks::all_stay))]
     pub fn new(alloc: Global) -> Image
-        ensures { result ≡ record {
-          raw = false;
-          memory = 0;
-          budget = 1;
-          needs = [];
-          starts = [];
-          slots = [];
-          code = [];
-        } }
+        ensures { result ≡ blank_image }
     {
         Image {
+            version: Version::One,
             raw: false,
             memory: 0,
             budget: 1,
@@ -39,6 +36,14 @@ impl Image {
             slots: Vec::new(alloc),
             code: Vec::new(alloc),
         }
+    }
+
+    /// Sets the version of the format of its bytes. The image has no instructions yet.
+    pub fn set_version(&mut self, version: Version)
+        requires { self.old.code ≡ [] }
+        ensures { self.new ≡ record self.old { version = version } }
+    {
+        self.version = version;
     }
 
     /// Sets the raw mark, under which unknown opcodes may stand.
@@ -106,17 +111,15 @@ impl Image {
         Ok(())
     }
 
-    /// Adds an instruction behind the others, of which there are fewer than 4,096. The error says
-    /// that memory was refused; the image is then as it was.
-    pub fn push_instr(&mut self, instr: Instr) -> Result<(), AllocError>
-        requires in_range { IsTrue (is_instr_in_range self.old.raw instr) }
-        requires room { length self.old.code < most_instructions }
-        ensures ok { OnOk result
-            (self.new ≡ record self.old { code = self.old.code ++ (instr ∷ []) }) }
-        ensures err { OnErr result (self.new ≡ self.old) }
+    /// Gives the image its instructions, in place of those that it has: at most 4,096, each in its range,
+    /// which together keep the rule of counted blocks (`are_blocks`).
+    pub fn set_code(&mut self, code: Vec<Instr>)
+        requires in_range { IsTrue (list_all (is_instr_in_range self.old.version self.old.raw)
+            code.items) }
+        requires most { length code.items ≤ most_instructions }
+        requires blocks { are_blocks (marks_of code.items) (map jump_of code.items) ≡ true }
+        ensures { self.new ≡ record self.old { code = code.items } }
     {
-        // Not `push`, whose error would hand the instruction back.
-        self.code.extend_from_slice(&[instr])?;
-        Ok(())
+        self.code = code;
     }
 }

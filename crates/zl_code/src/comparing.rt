@@ -20,11 +20,12 @@ impl Image {
     }
 }
 
-/// Whether the images have the same mark, the same numbers and the same needs.
+/// Whether the images have the same version, the same mark, the same numbers and the same needs.
 fn has_same_header(one: &Image, other: &Image) -> bool
     ensures { IsTrue result ↔ HasSameHeader one.now other.now }
 {
-    one.is_raw() == other.is_raw()
+    one.version() == other.version()
+        && one.is_raw() == other.is_raw()
         && one.memory() == other.memory()
         && one.budget() == other.budget()
         && has_same_needs(one, other)

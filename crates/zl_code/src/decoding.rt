@@ -1,13 +1,14 @@
-ghost use Rattle.std.specs.Prelude.{drop, length, ◌+◌, ◌*◌, ◌≡◌, ◌≤◌, ◌⊎◌, IsTrue, IfOk, OnOk, MatchResult, Some, None, slice_index};
+ghost use Rattle.std.specs.Prelude.{drop, length, ◌+◌, ◌*◌, ◌≡◌, ◌≤◌, ◌⊎◌, IsTrue, IfOk, OnOk, MatchResult, Some, None, slice_index, IfSome, IfNone, false};
 ghost use Rattle.std.specs.Result.{result_err};
 ghost use Rattle.zl_code.specs.declared.image.DecodeFault.TheVariants as faults;
-ghost use Rattle.zl_code.specs.Spells.{needs_byte, is_needs_byte, number_at, header_fault, is_header_in_range, first_fault, is_raw_at, count_at, starts_at, slots_at, length_at, pieces, Spells};
+ghost use Rattle.zl_code.specs.Spells.{needs_byte, is_needs_byte, number_at, header_fault, is_header_in_range, first_fault, is_raw_at, is_version, version_at, version_number, count_at, starts_at, slots_at, length_at, pieces, Spells};
 ghost use Rattle.zl_code.specs.Limits.{header_length, declaration_length, instruction_length};
 ghost use Rattle.zl_code.specs.Image.{Image as ImageValue, needs_value};
 
+use crate::blocks::are_blocks;
 use crate::declarations::{slots_of, starts_of};
-use crate::encoding::{DECLARATION_LEN, HEADER_LEN, MAGIC, VERSION};
-use crate::image::{DecodeFault, Image, Needs};
+use crate::encoding::{DECLARATION_LEN, HEADER_LEN, MAGIC};
+use crate::image::{DecodeFault, Image, Needs, Version};
 use crate::instr::Instr;
 use crate::known::code_of;
 use std::alloc::Global;
@@ -15,6 +16,7 @@ use std::alloc::Global;
 /// What the header says.
 #[derive(Clone, Copy)]
 struct Header {
+    version: Version,
     raw: bool,
     count: usize,
     memory: u32,
@@ -45,6 +47,18 @@ fn word_at(bytes: &[u8], offset: usize) -> u32
         bytes[offset + 2],
         bytes[offset + 3],
     ])
+}
+
+/// The version with this number.
+fn version_of(number: u8) -> Option<Version>
+    ensures some { IfSome result (λ version. version_number version ≡ number) }
+    ensures none { IfNone result (is_version number ≡ false) }
+{
+    match number {
+        1 => Some(Version::One),
+        2 => Some(Version::Two),
+        _ => None,
+    }
 }
 
 /// Whether the byte has no bit but those of the five needs.
@@ -89,6 +103,7 @@ fn is_header_in_range(bytes: &[u8]) -> bool
 /// The header, where it has no fault and the bytes are as many as it says.
 #[tactic(auto, unfolding(crate::specs::Spells::header_fault))]
 fn header_of(bytes: &[u8]) -> Result<Header, DecodeFault>
+    ensures version { IfOk result (λ header. header.version ≡ version_at bytes.now) }
     ensures raw { IfOk result (λ header. header.raw ≡ is_raw_at bytes.now) }
     ensures count { IfOk result (λ header. header.count ≡ count_at bytes.now) }
     ensures memory { IfOk result (λ header. header.memory ≡ number_at bytes.now 8 4) }
@@ -106,13 +121,14 @@ fn header_of(bytes: &[u8]) -> Result<Header, DecodeFault>
     if !bytes.starts_with(&MAGIC) {
         return Err(DecodeFault::Magic);
     }
-    if bytes[4] != VERSION {
+    let Some(version) = version_of(bytes[4]) else {
         return Err(DecodeFault::Version);
-    }
+    };
     if !is_header_in_range(bytes) {
         return Err(DecodeFault::BadHeader);
     }
     let header = Header {
+        version,
         raw: bytes[5] == 1,
         count: usize::from(half_word_at(bytes, 6)),
         memory: word_at(bytes, 8),
@@ -160,10 +176,16 @@ fn image_of(alloc: Global, bytes: &[u8]) -> Result<Image, DecodeFault>
     let slots = slots_of(alloc, declarations_at(bytes, slots_offset, header.slots))?;
     let code = code_of(
         alloc,
+        header.version,
         header.raw,
         instrs_at(bytes, code_offset, header.count),
     )?;
+    let keeps = are_blocks(alloc, &code)?;
+    if !keeps {
+        return Err(DecodeFault::BadBlock);
+    }
     Ok(Image {
+        version: header.version,
         raw: header.raw,
         memory: header.memory,
         budget: header.budget,
@@ -179,7 +201,7 @@ fn image_of(alloc: Global, bytes: &[u8]) -> Result<Image, DecodeFault>
 /// `NoMemory` says that memory was refused. Each other fault is the first in this order: `Short`,
 /// `Magic`, `Version`, `BadHeader` of the header, `Length`, `BadHeader` of the declarations, and
 /// then, of the first instruction with a fault, `UnknownOp` (never under the raw mark),
-/// `BadRegister`, `UnusedField`.
+/// `BadRegister`, `UnusedField`; last `BadBlock` of the instructions together.
 pub fn decode(alloc: Global, bytes: &[u8]) -> Result<Image, DecodeFault>
     // What is read is spelled so.
     ensures found { IfOk result (λ image. Spells bytes.now image) }

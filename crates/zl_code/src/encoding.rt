@@ -20,9 +20,6 @@ pub(crate) const DECLARATION_LEN: usize = 8;
 /// The first bytes of an image.
 pub(crate) const MAGIC: [u8; 4] = [0x5a, 0x4c, 0x41, 0x42];
 
-/// The version of the format.
-pub(crate) const VERSION: u8 = 1;
-
 /// Adds the 16 bytes of the instruction.
 fn put_instr(out: &mut Vec<u8>, instr: Instr) -> Result<(), AllocError>
     ensures { OnOk result (out.new.items ≡ out.old.items ++ instr_bytes instr) }
@@ -71,7 +68,7 @@ fn put_header(out: &mut Vec<u8>, image: &Image) -> Result<(), AllocError>
     ensures { OnOk result (out.new.items ≡ out.old.items ++ header image.now) }
 {
     out.extend_from_slice(&MAGIC)?;
-    out.extend_from_slice(&[VERSION, bit_if(image.raw, 1)])?;
+    out.extend_from_slice(&[image.version.number(), bit_if(image.raw, 1)])?;
     put_numbers(out, image.code.len() as u16, image.memory, image.budget)?;
     put_counts(
         out,

@@ -1,18 +1,22 @@
 ghost use Rattle.std.specs.Prelude.{◌≡◌, ◌≤◌, ◌<◌, ◌==◌, length, OnSome, IsTrue};
 ghost use Rattle.zl_code.specs.Limits.{most_instructions, most_memory, most_budget, most_starts, most_slot_arrays};
+ghost use Rattle.std.specs.Prelude.{slice_get};
+ghost use Rattle.zl_code.specs.Blocks.{marks_of};
 ghost use Rattle.zl_code.specs.Image.{instr_at, local_at, call_at, is_among, can_be_needed, needs_value};
-ghost use Rattle.zl_code.specs.Spells.{is_in_range};
+ghost use Rattle.zl_code.specs.Spells.{is_in_range, version_number};
 ghost use Rattle.zl_code.specs.declared.image.DecodeFault.TheVariants.{NoMemory};
 
+use crate::blocks::{Mark, mark_of};
 use crate::instr::{CallInstr, Instr, LocalInstr};
 use std::alloc::{AllocError, AllocFailed};
 use std::marker::Model;
 use zl_rights::{Condition, Kind, Rights};
 
-/// A program as it is loaded: instructions, the size of its data memory, its budget, and what it
-/// declares. Own profile.
+/// A program as it is loaded: the version of its format, instructions, the size of its data memory,
+/// its budget, and what it declares. Own profile.
 #[derive(Drop)]
 pub struct Image {
+    pub(crate) version: Version,
     pub(crate) raw: bool,
     pub(crate) memory: u32,
     pub(crate) budget: u32,
@@ -20,6 +24,25 @@ pub struct Image {
     pub(crate) starts: Vec<Start>,
     pub(crate) slots: Vec<SlotArray>,
     pub(crate) code: Vec<Instr>,
+}
+
+/// The version of the format of an image's bytes. Own profile.
+#[derive(Clone, Copy, PartialEq, Eq, Debug)]
+pub enum Version {
+    One,
+    Two,
+}
+
+impl Version {
+    /// The number of the version, as the header has it.
+    pub fn number(self) -> u8
+        ensures { result ≡ version_number self }
+    {
+        match self {
+            Version::One => 1,
+            Version::Two => 2,
+        }
+    }
 }
 
 /// What the processes of a program have to be allowed to make.
@@ -91,6 +114,7 @@ impl Model for Image {
     ghost use Rattle.zl_code.specs.Spells.{is_in_range};
 
     ghost view = { λ i. record {
+      version = i.version;
       raw = i.raw;
       memory = i.memory;
       budget = i.budget;
@@ -101,6 +125,7 @@ impl Model for Image {
     } };
 
     ghost invariant = { λ i. IsTrue (is_in_range (record {
+      version = i.version;
       raw = i.raw;
       memory = i.memory;
       budget = i.budget;
@@ -126,6 +151,13 @@ impl Image {
 
     /// The most slot arrays.
     pub const MOST_SLOT_ARRAYS: usize = 8;
+
+    /// The version of the format of its bytes.
+    pub fn version(&self) -> Version
+        ensures { result ≡ self.now.version }
+    {
+        self.version
+    }
 
     /// Whether the image has the raw mark, under which unknown opcodes may stand.
     pub fn is_raw(&self) -> bool
@@ -239,6 +271,17 @@ impl Image {
             _ => None,
         }
     }
+
+    /// What the n-th instruction is to counted blocks; nothing past the last.
+    #[inline(always)]
+    pub fn mark_at(&self, n: usize) -> Option<Mark>
+        ensures { result ≡ slice_get (marks_of self.now.code) n }
+    {
+        match self.code.get(n) {
+            Some(instr) => Some(mark_of(instr)),
+            None => None,
+        }
+    }
 }
 
 impl From<AllocError> for DecodeFault {
@@ -265,7 +308,7 @@ pub enum DecodeFault {
     Short,
     /// The first four bytes aren't those of an image.
     Magic,
-    /// The version isn't 1.
+    /// The version is neither 1 nor 2.
     Version,
     /// The number of bytes isn't what the header says.
     Length,
@@ -281,4 +324,7 @@ pub enum DecodeFault {
     BadHeader,
     /// Memory was refused.
     NoMemory,
+    /// The ends of counted blocks don't nest as brackets, at most four deep, or a count isn't 1 to
+    /// 1,000,000, or a jump leads into a block or out of one.
+    BadBlock,
 }

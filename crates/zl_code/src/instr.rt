@@ -1,4 +1,5 @@
-ghost use Rattle.std.specs.Prelude.{◌≡◌, IfSome, IfNone, slice_get};
+ghost use Rattle.std.specs.Prelude.{◌≡◌, ◌⊎◌, IfSome, IfNone, IsTrue, slice_get};
+ghost use Rattle.zl_code.specs.Instructions.{is_new};
 ghost use Rattle.zl_code.specs.Jumps.{jump};
 ghost use Rattle.zl_code.specs.Spells.{local_parts, number_at, register_in};
 
@@ -169,6 +170,15 @@ pub enum LocalInstr {
         bits: u32,
         target: u32,
     },
+    /// A counted block begins, which is gone round so many times; its end has this number.
+    Rep {
+        count: u32,
+        end: u32,
+    },
+    /// The block ends that begins at this number: it is gone round once more, or left.
+    EndRep {
+        rep: u32,
+    },
 }
 
 impl LocalInstr {
@@ -177,7 +187,8 @@ impl LocalInstr {
     pub fn target(&self) -> Option<u32>
         ensures jump { result ≡ jump self.now }
         ensures some { IfSome result (λ target. (local_parts self.now).target ≡ target) }
-        ensures none { IfNone result ((local_parts self.now).target ≡ 0) }
+        ensures none { IfNone result
+            (IsTrue (is_new (local_parts self.now).opcode) ⊎ ((local_parts self.now).target ≡ 0)) }
     {
         match self {
             LocalInstr::Jump { target } => Some(*target),

@@ -270,6 +270,8 @@ fn local_bytes(local: LocalInstr) -> [u8; Instr::LEN]
             bits,
             target,
         } => with_registers(25, [register], bits, target),
+        LocalInstr::Rep { count, end } => with_registers(26, [], count, end),
+        LocalInstr::EndRep { rep } => with_registers(27, [], 0, rep),
     }
 }
 

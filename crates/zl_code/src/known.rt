@@ -6,13 +6,13 @@ ghost use Rattle.std.specs.Result.{result_err};
 ghost use Rattle.zl_code.specs.First.{first_some};
 ghost use Rattle.zl_code.specs.Limits.{first_call};
 ghost use Rattle.zl_code.specs.declared.image.DecodeFault.TheVariants as faults;
-ghost use Rattle.zl_code.specs.Instructions.{layout_of};
-ghost use Rattle.zl_code.specs.Spells.{are_registers, names_registers, is_unused_zero, row_bytes, local_bytes, call_bytes, instr_bytes, is_local_in_range, is_call_in_range, is_instr_in_range, instr_fault};
+ghost use Rattle.zl_code.specs.Instructions.{call_row, is_known, layout_at, layout_of};
+ghost use Rattle.zl_code.specs.Spells.{are_registers, names_registers, is_unused_zero, row_bytes, local_bytes, local_parts, call_bytes, instr_bytes, is_local_in_range, is_call_in_range, is_instr_in_range, instr_fault};
 ghost use Rattle.zl_code.specs.Fields.{read_in};
 
 use crate::fields::{Fields, fields_of, is_unused_zero, names_registers};
 use crate::history::CallName;
-use crate::image::DecodeFault;
+use crate::image::{DecodeFault, Version};
 use crate::instr::{CallInstr, Instr, LocalInstr};
 use crate::layout::Row;
 use crate::rows::FIRST_CALL;
@@ -26,6 +26,7 @@ fn known_local(fields: Fields) -> LocalInstr
     requires registers { are_registers (read_in fields).registers ≡ true }
     ensures bytes { IfSome (layout_of fields.opcode) (λ l.
         local_bytes result ≡ row_bytes fields.opcode l (read_in fields)) }
+    ensures opcode { (local_parts result).opcode ≡ fields.opcode }
     ensures in_range { IsTrue (is_local_in_range result) }
 {
     let [a, b, c, ..] = fields.registers;
@@ -147,6 +148,11 @@ fn known_local(fields: Fields) -> LocalInstr
             bits: imm,
             target,
         },
+        26 => LocalInstr::Rep {
+            count: imm,
+            end: target,
+        },
+        27 => LocalInstr::EndRep { rep: target },
         _ => unreachable!(),
     }
 }
@@ -161,6 +167,7 @@ fn known_call(fields: Fields) -> CallInstr
         × (is_unused_zero l (read_in fields) ≡ true)) }
     ensures bytes { IfSome (layout_of fields.opcode) (λ l.
         call_bytes result ≡ row_bytes fields.opcode l (read_in fields)) }
+    ensures opcode { (call_row result.name).opcode ≡ fields.opcode }
     ensures in_range { IsTrue (is_call_in_range result) }
 {
     let Some(name) = CallName::of_opcode(fields.opcode) else {
@@ -178,16 +185,17 @@ fn known_call(fields: Fields) -> CallInstr
     }
 }
 
-/// The instruction of a known opcode.
-fn known(fields: Fields) -> Instr
+/// The instruction of an opcode that the version knows.
+fn known(version: Version, fields: Fields) -> Instr
     requires opcode { IsTrue (is_some (layout_of fields.opcode)) }
+    requires known { is_known version fields.opcode ≡ true }
     requires registers { are_registers (read_in fields).registers ≡ true }
     requires last { IfSome (layout_of fields.opcode) (λ l.
         (names_registers l.ending (read_in fields) ≡ true)
         × (is_unused_zero l (read_in fields) ≡ true)) }
     ensures bytes { IfSome (layout_of fields.opcode) (λ l.
         instr_bytes result ≡ row_bytes fields.opcode l (read_in fields)) }
-    ensures in_range { (raw : Bool) → IsTrue (is_instr_in_range raw result) }
+    ensures in_range { (raw : Bool) → IsTrue (is_instr_in_range version raw result) }
 {
     if fields.opcode < FIRST_CALL {
         Instr::Local(known_local(fields))
@@ -196,12 +204,13 @@ fn known(fields: Fields) -> Instr
     }
 }
 
-/// The instruction of 16 bytes with an unknown opcode, which only the raw mark allows.
-fn unknown(raw: bool, bytes: [u8; Instr::LEN]) -> Result<Instr, DecodeFault>
-    requires { layout_of (slice_index bytes 0) ≡ None }
+/// The instruction of 16 bytes with an opcode that the version doesn't know, which only the raw mark
+/// allows.
+fn unknown(version: Version, raw: bool, bytes: [u8; Instr::LEN]) -> Result<Instr, DecodeFault>
+    requires { layout_at version (slice_index bytes 0) ≡ None }
     ensures bytes { IfOk result (λ instr. instr_bytes instr ≡ bytes) }
-    ensures in_range { IfOk result (λ instr. IsTrue (is_instr_in_range raw instr)) }
-    ensures fault { instr_fault raw bytes ≡ result_err result }
+    ensures in_range { IfOk result (λ instr. IsTrue (is_instr_in_range version raw instr)) }
+    ensures fault { instr_fault version raw bytes ≡ result_err result }
 {
     if raw {
         Ok(Instr::Unknown(bytes))
@@ -211,16 +220,22 @@ fn unknown(raw: bool, bytes: [u8; Instr::LEN]) -> Result<Instr, DecodeFault>
 }
 
 impl Instr {
-    /// The instruction that the 16 bytes spell, in an image with the raw mark or without it.
+    /// The instruction that the 16 bytes spell, in an image of the version with the raw mark or
+    /// without it.
     ///
-    /// The first fault in this order: `UnknownOp` of an unknown opcode, never under the raw mark;
+    /// The first fault in this order: `UnknownOp` of an opcode that the version doesn't know, never
+    /// under the raw mark;
     /// `BadRegister`; `UnusedField`. The layout is own profile.
-    pub fn from_bytes(raw: bool, bytes: [u8; Instr::LEN]) -> Result<Instr, DecodeFault>
+    pub fn from_bytes(
+        version: Version,
+        raw: bool,
+        bytes: [u8; Instr::LEN],
+    ) -> Result<Instr, DecodeFault>
         ensures bytes { IfOk result (λ instr. instr_bytes instr ≡ bytes) }
-        ensures in_range { IfOk result (λ instr. IsTrue (is_instr_in_range raw instr)) }
-        ensures fault { instr_fault raw bytes ≡ result_err result }
+        ensures in_range { IfOk result (λ instr. IsTrue (is_instr_in_range version raw instr)) }
+        ensures fault { instr_fault version raw bytes ≡ result_err result }
     {
-        match Row::of_opcode(bytes[0]) {
+        match Row::at(version, bytes[0]) {
             Some(row) => {
                 let fields = fields_of(bytes)?;
                 if !names_registers(row.columns.ending, &fields) {
@@ -229,9 +244,9 @@ impl Instr {
                 if !is_unused_zero(row, &fields) {
                     return Err(DecodeFault::UnusedField);
                 }
-                Ok(known(fields))
+                Ok(known(version, fields))
             }
-            None => unknown(raw, bytes),
+            None => unknown(version, raw, bytes),
         }
     }
 }
@@ -239,19 +254,20 @@ impl Instr {
 /// The instructions of the pieces, in order.
 pub(crate) fn code_of(
     alloc: Global,
+    version: Version,
     raw: bool,
     pieces: &[[u8; Instr::LEN]],
 ) -> Result<Vec<Instr>, DecodeFault>
     ensures bytes { IfOk result (λ code. map instr_bytes code.items ≡ pieces.now) }
-    ensures in_range { IfOk result (λ code. IsTrue (list_all (is_instr_in_range raw) code.items)) }
-    ensures none { OnOk result (first_some (map (instr_fault raw) pieces.now) ≡ None) }
+    ensures in_range { IfOk result (λ code. IsTrue (list_all (is_instr_in_range version raw) code.items)) }
+    ensures none { OnOk result (first_some (map (instr_fault version raw) pieces.now) ≡ None) }
     ensures fault { IfErr result (λ fault.
         (fault ≡ faults.NoMemory)
-        ⊎ (first_some (map (instr_fault raw) pieces.now) ≡ Some fault)) }
+        ⊎ (first_some (map (instr_fault version raw) pieces.now) ≡ Some fault)) }
 {
     let mut code = Vec::with_capacity(alloc, pieces.len())?;
     for piece in pieces {
-        let instr = Instr::from_bytes(raw, *piece)?;
+        let instr = Instr::from_bytes(version, raw, *piece)?;
         // Not `push`, whose error would hand the instruction back.
         code.extend_from_slice(&[instr])?;
     }

@@ -9,6 +9,7 @@
 //! variants and methods of a type follow it where they say nothing else.
 #![tactic(auto)]
 
+mod blocks;
 mod boot;
 pub mod boot_laws;
 mod building;
@@ -27,13 +28,16 @@ mod layout;
 pub mod own_laws;
 mod register;
 mod rows;
+mod upgrading;
 
+pub use blocks::{Mark, are_blocks};
 pub use boot::{Boot, BootCause, BootFault, Grant, Grants, Statement};
 pub use decoding::decode;
 pub use encoding::encode;
 pub use history::{CallName, Outcome, ProcState, TraceItem, are_same_items};
-pub use image::{DecodeFault, Image, SlotArray, Start};
+pub use image::{DecodeFault, Image, SlotArray, Start, Version};
 pub use instr::{CallInstr, HandleList, Instr, LocalInstr};
 pub use instr_bytes::InstrBytes;
 pub use layout::{Columns, Ending, Field, Gives, Kinds, Row};
 pub use register::Register;
+pub use upgrading::{Kept, upgrade};

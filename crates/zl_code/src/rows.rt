@@ -1,13 +1,14 @@
 //! The table of instructions: the row of each opcode, and of each name.
 
-ghost use Rattle.std.specs.Prelude.{◌≡◌, ◌≢◌, ◌<◌, ◌≤◌, None, Some, IfSome, IfNone, IsTrue, ◌↔◌, length};
+ghost use Rattle.std.specs.Prelude.{◌≡◌, ◌≢◌, ◌<◌, ◌≤◌, None, Some, IfSome, IfNone, OnSome, IsTrue, true, ◌↔◌, length};
 ghost use Rattle.std.specs.Option.{option_map};
 ghost use Rattle.zl_code.specs.Given.{given};
 ghost use Rattle.zl_code.specs.Limits.{first_call, most_registers};
 ghost use Rattle.zl_code.specs.declared.history.CallName.{CallName as CallValue};
-ghost use Rattle.zl_code.specs.Instructions.{call_name, call_row, calls, layout as layout_with, layout_of, row_of, row_named, row_value};
+ghost use Rattle.zl_code.specs.Instructions.{call_name, call_row, calls, is_known, layout as layout_with, layout_at, layout_of, row_of, row_named, row_value};
 
 use crate::history::CallName;
+use crate::image::Version;
 use crate::layout::Gives::{Copies, Makes, Packet, Signals, Sizes, Status};
 use crate::layout::Kinds::{Any, Ends, Only, Tasks};
 use crate::layout::{Columns, Ending, Field, Row};
@@ -52,6 +53,8 @@ macro_rules! locals {
             23 "jge" [Reads] Both;
             24 "jhas" [Reads] Both;
             25 "jnhas" [Reads] Both;
+            26 "rep" [] Both;
+            27 "endrep" [] Target;
         }
     };
 }
@@ -225,7 +228,36 @@ impl CallName {
     }
 }
 
+impl Version {
+    /// Whether the version knows an opcode that has a row: version 1 knows neither `rep` nor `endrep`.
+    pub fn knows(self, opcode: u8) -> bool
+        ensures { result ≡ is_known self opcode }
+    {
+        match self {
+            Version::One => opcode != 26 && opcode != 27,
+            Version::Two => true,
+        }
+    }
+}
+
 impl Row {
+    /// The row of the opcode, if the version knows it.
+    pub fn at(version: Version, opcode: u8) -> Option<Row>
+        ensures known { OnSome result (is_known version opcode ≡ true) }
+        ensures row { IfSome result (λ row.
+            layout_of opcode ≡ Some (layout_with (length row.columns.now.fields.now) row.columns.now.ending)) }
+        ensures layout { option_map
+            (λ row. layout_with (length row.columns.now.fields.now) row.columns.now.ending) result
+            ≡ layout_at version opcode }
+        ensures registers { IfSome result (λ row.
+            length row.columns.now.fields.now ≤ most_registers) }
+    {
+        if !version.knows(opcode) {
+            return None;
+        }
+        Row::of_opcode(opcode)
+    }
+
     /// The row of the opcode, if it is known.
     pub fn of_opcode(opcode: u8) -> Option<Row>
         ensures row { option_map row_value result ≡ row_of opcode }

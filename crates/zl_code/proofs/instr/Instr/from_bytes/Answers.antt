@@ -7,20 +7,20 @@ pub returns-in_err-fields-in-Some-clause-fault : goal.returns-in_err-fields-in-S
 returns-in_err-fields-in-Some-clause-fault c =
     let p = err_from_is_err_and c.from_residual.result c.from_residual.ensures.1 in
     rw (p.1, p.2, c.in_err-fields-in-Some.ensures.fault.0)
-    (instr_fault-register c.args.raw c.args.bytes _ (sym c.in-Some.ensures.layout) c.in_err-fields-in-Some.ensures.fault.1)
+    (instr_fault-register c.args.version c.args.raw c.args.bytes _ (sym c.in-Some.ensures.layout) c.in_err-fields-in-Some.ensures.fault.1)
 
 pub returns-then-not-names_registers-clause-fault :
     goal.returns-then-not-names_registers-clause-fault
 returns-then-not-names_registers-clause-fault c =
     let e = c.in_ok-fields-in-Some.ensures in
-    instr_fault-named c.args.raw c.args.bytes _ _ (sym c.in-Some.ensures.layout) e.in_range
+    instr_fault-named c.args.version c.args.raw c.args.bytes _ _ (sym c.in-Some.ensures.layout) e.in_range
     (record { registers = e.registers; imm = e.imm; target = e.target; places = e.places }) (sym c.if-not-names_registers.ensures)
 
 pub returns-then-not-is_unused_zero-clause-fault :
     goal.returns-then-not-is_unused_zero-clause-fault
 returns-then-not-is_unused_zero-clause-fault c =
     let e = c.in_ok-fields-in-Some.ensures in
-    instr_fault-known c.args.raw c.args.bytes _ _ false (sym c.in-Some.ensures.layout) e.in_range
+    instr_fault-known c.args.version c.args.raw c.args.bytes _ _ false (sym c.in-Some.ensures.layout) e.in_range
     (record { registers = e.registers; imm = e.imm; target = e.target; places = e.places }) (sym c.if-not-names_registers.ensures)
     (sym c.if-not-is_unused_zero.ensures)
 
@@ -29,7 +29,7 @@ pub returns-else-not-is_unused_zero-clause-bytes :
 returns-else-not-is_unused_zero-clause-bytes c =
     let fits : IsBytes c.args.bytes = λ i. search (rules, c.well_formed) in
     let e = c.in_ok-fields-in-Some.ensures in
-    let known = IfSome-at _ _ _ (ap layout_of e.opcode ∙ sym c.in-Some.ensures.layout) c.known.ensures.bytes in
+    let known = IfSome-at _ _ _ (ap layout_of e.opcode ∙ c.in-Some.ensures.row) c.known.ensures.bytes in
     row_bytes-read c.args.bytes _ _ _ _ (search rules) fits e.opcode (record { registers = e.registers; imm = e.imm; target = e.target; places = e.places })
     (sym c.if-not-is_unused_zero.ensures) known
 
@@ -37,6 +37,6 @@ pub returns-else-not-is_unused_zero-clause-fault :
     goal.returns-else-not-is_unused_zero-clause-fault
 returns-else-not-is_unused_zero-clause-fault c =
     let e = c.in_ok-fields-in-Some.ensures in
-    instr_fault-known c.args.raw c.args.bytes _ _ true (sym c.in-Some.ensures.layout) e.in_range
+    instr_fault-known c.args.version c.args.raw c.args.bytes _ _ true (sym c.in-Some.ensures.layout) e.in_range
     (record { registers = e.registers; imm = e.imm; target = e.target; places = e.places }) (sym c.if-not-names_registers.ensures)
     (sym c.if-not-is_unused_zero.ensures)

@@ -11,6 +11,9 @@ use Rattle.zl_abs.proofs.Common.{stores, suc, swaps_by, swaps_in, taken_from, ta
 use Rattle.zl_abs.proofs.Common.{values_of, whole, with_all, with_value, word_at, writes, zero, zip, ℕ, ◌&&◌, ◌*◌, ◌++◌, ◌+◌, ◌<◌, ◌∷◌, ◌≡◌, ◌≤◌}
 use Rattle.zl_rights.specs.declared.kind.Kind.TheVariants as kind
 use Rattle.zl_code.specs.declared.instr.Instr.TheVariants as instr
+use Rattle.std.specs.Bool.{then_some}
+use Rattle.zl_code.specs.declared.image.Version.{Version}
+use Rattle.zl_abs.specs.LocalRules.{goes_round_again}
 use Rattle.zl_code.specs.declared.instr.LocalInstr.TheVariants as local
 use Rattle.zl_code.specs.declared.layout.Ending.{Ending}
 use Rattle.zl_code.specs.declared.layout.Ending.TheVariants as ending
@@ -102,6 +105,10 @@ take_in_range : (a b : ℕ) → is_local_in_range (local.Take a b) ≡ true → 
 unfolding local_parts
 take_in_range a b h = grind (arith, nat_tests)
 
+again_fine : (b : Bool) (s : State) → IsFine s → IfSome (then_some b s) IsFine
+again_fine true s h = h
+again_fine false s h = tt
+
 pub local_fine : (bounds : List ℕ) (i : Image) (x : LocalInstr) (s : State) → IsTrue (is_in_range i) → is_local_in_range x ≡ true → IsFine s
     → IfOk (local_rule bounds i x s) FineWays
 unfolding local_rule
@@ -130,6 +137,8 @@ local_fine bounds i (local.JumpBelow a imm target) s g r h = below_fine s a imm 
 local_fine bounds i (local.JumpNotBelow a imm target) s g r h = unless_ways _ (below_fine s a imm h)
 local_fine bounds i (local.JumpHas a imm target) s g r h = has_fine s a imm h
 local_fine bounds i (local.JumpHasNot a imm target) s g r h = unless_ways _ (has_fine s a imm h)
+local_fine bounds i (local.Rep imm end) s g r h = (tt, h)
+local_fine bounds i (local.EndRep rep) s g r h = (again_fine (goes_round_again i.code rep) s h, h)
 
 -- ---- the calls
 
@@ -249,21 +258,21 @@ edges_fine size place target w h =
 
 -- ---- the rule
 
-pub in_range_at : (raw : Bool) (code : List Instr) (n : ℕ) → list_all (is_instr_in_range raw) code ≡ true
-    → IfSome (slice_get code n) (λ x. is_instr_in_range raw x ≡ true)
-in_range_at raw [] n h = tt
-in_range_at raw (x ∷ code) zero h = (and_parts (is_instr_in_range raw x) (list_all (is_instr_in_range raw) code) h).0
-in_range_at raw (x ∷ code) (suc n) h = in_range_at raw code n (and_parts (is_instr_in_range raw x) (list_all (is_instr_in_range raw) code) h).1
+pub in_range_at : (v : Version) (raw : Bool) (code : List Instr) (n : ℕ) → list_all (is_instr_in_range v raw) code ≡ true
+    → IfSome (slice_get code n) (λ x. is_instr_in_range v raw x ≡ true)
+in_range_at v raw [] n h = tt
+in_range_at v raw (x ∷ code) zero h = (and_parts (is_instr_in_range v raw x) (list_all (is_instr_in_range v raw) code) h).0
+in_range_at v raw (x ∷ code) (suc n) h = in_range_at v raw code n (and_parts (is_instr_in_range v raw x) (list_all (is_instr_in_range v raw) code) h).1
 
-by_instr : (bounds : List ℕ) (i : Image) (n : ℕ) (s : State) (o : Option Instr) → IsTrue (is_in_range i) → IfSome o (λ x. is_instr_in_range i.raw x ≡ true)
-    → IsFine s → IfOk (rule_by bounds i n s o) AllFine
+by_instr : (bounds : List ℕ) (i : Image) (n : ℕ) (s : State) (o : Option Instr) → IsTrue (is_in_range i)
+    → IfSome o (λ x. is_instr_in_range i.version i.raw x ≡ true) → IsFine s → IfOk (rule_by bounds i n s o) AllFine
 by_instr bounds i n s None g r h = tt
 by_instr bounds i n s (Some (instr.Local x)) g r h =
-    then_fine FineWays AllFine (local_rule bounds i x s) _ (local_fine bounds i x s g r h) (edges_fine (length i.code) n (target_of x))
+    then_fine FineWays AllFine (local_rule bounds i x s) _ (local_fine bounds i x s g (and_parts _ _ r).1 h) (edges_fine (length i.code) n (target_of x))
 by_instr bounds i n s (Some (instr.Call x)) g r h =
-    then_fine FineWays AllFine (call_rule bounds i x s) _ (call_fine bounds i x s r h) (edges_fine (length i.code) n 0)
+    then_fine FineWays AllFine (call_rule bounds i x s) _ (call_fine bounds i x s (and_parts _ _ r).1 h) (edges_fine (length i.code) n 0)
 by_instr bounds i n s (Some (instr.Unknown bytes)) g r h = tt
 
 pub rule_fine : (bounds : List ℕ) (i : Image) (n : ℕ) (s : State) → IsTrue (is_in_range i) → IsFine s → IfOk (rule_with bounds i n s) AllFine
 unfolding rule_with
-rule_fine bounds i n s g h = by_instr bounds i n s (instr_at i n) g (in_range_at i.raw i.code n (ranges i g).code) h
+rule_fine bounds i n s g h = by_instr bounds i n s (instr_at i n) g (in_range_at i.version i.raw i.code n (ranges i g).code) h

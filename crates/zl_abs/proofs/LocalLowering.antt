@@ -5,12 +5,14 @@ use Rattle.zl_abs.proofs.Common.{le-div, loads, local_rule, ltb, may_move, moved
 use Rattle.zl_abs.proofs.Common.{slot_value, smaller, stores, swaps_by, swaps_in, takes, true, unless, value_at, within, word_at, ℕ, ◌&&◌, ◌+◌, ◌/◌, ◌<◌, ◌^◌}
 use Rattle.zl_abs.proofs.Common.{◌||◌, ◌≡◌, ◌≤◌}
 use Rattle.std.proofs.Math.Nat.{div-mul-le_self}
+use Rattle.std.specs.Bool.{then_some}
+use Rattle.zl_abs.specs.LocalRules.{goes_round_again}
 use Rattle.zl_code.specs.declared.instr.LocalInstr.TheVariants as local
 use Rattle.zl_abs.specs.declared.value.AbsVal.TheVariants.{Word, Has, KindOf, RightsOf}
 use Rattle.zl_abs.specs.declared.cause.Cause.TheVariants as cause
 use Rattle.zl_abs.proofs.Order.{below_refl, kind_trans, within_trans, parts}
 use Rattle.zl_abs.proofs.Lowering.{Lowers, IsBelow, WaysBelow, lowers_then, lowers_if, lowers_unless, not_kept, value_below, with_below, moved_below, no_has}
-use Rattle.zl_abs.proofs.Lowering.{both_by, word_at_below, writes_below, computes_below}
+use Rattle.zl_abs.proofs.Lowering.{WayBelow, both_by, word_at_below, writes_below, computes_below}
 use Rattle.zl_abs.proofs.TestLowering.{zero_below, equal_below, below_below, has_below, tag_there, less_kept}
 use Rattle.zl_code.proofs.Common.{not-false}
 use Rattle.std.proofs.lemmas.Bool.{leb-true, le-leb}
@@ -128,6 +130,10 @@ shifted_below m m2 places h = both_by (λ x y. x ≤ y) (ltb places 64) _ 0 _ 0 
 unless_below : (x y : Result Ways Cause) → Lowers WaysBelow x y → Lowers WaysBelow (unless x) (unless y)
 unless_below x y h = lowers_then WaysBelow WaysBelow x y _ _ h (λ v w k. (k.1, k.0))
 
+again_below : (b : Bool) (s t : State) → IsBelow s t → WayBelow (then_some b s) (then_some b t)
+again_below true s t h = h
+again_below false s t h = tt
+
 pub local_below : (bounds : List ℕ) (i : Image) (x : LocalInstr) (s t : State) → IsBelow s t
     → Lowers WaysBelow (local_rule bounds i x s) (local_rule bounds i x t)
 unfolding local_rule
@@ -156,3 +162,5 @@ local_below bounds i (local.JumpBelow a imm target) s t h = below_below s t a im
 local_below bounds i (local.JumpNotBelow a imm target) s t h = unless_below _ _ (below_below s t a imm h)
 local_below bounds i (local.JumpHas a imm target) s t h = has_below s t a imm h
 local_below bounds i (local.JumpHasNot a imm target) s t h = unless_below _ _ (has_below s t a imm h)
+local_below bounds i (local.Rep imm end) s t h = (tt, h)
+local_below bounds i (local.EndRep rep) s t h = (again_below (goes_round_again i.code rep) s t h, h)

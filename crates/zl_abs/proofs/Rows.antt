@@ -1,8 +1,10 @@
 -- Worked programs, accepted and refused, by computation: one at least for each cause.
-use Rattle.zl_abs.proofs.Common.{Image, Instr, List, LocalInstr, SlotArray, Some, Start, [], false, refl, rights_of, ℕ, ◌∷◌, ◌≡◌}
+use Rattle.zl_code.specs.Image.{blank_image}
+use Rattle.zl_abs.proofs.Common.{Image, Instr, List, LocalInstr, SlotArray, Some, Start, [], refl, rights_of, ℕ, ◌∷◌, ◌≡◌}
 use Rattle.zl_rights.specs.declared.kind.Kind.TheVariants as kind
 use Rattle.zl_rights.specs.declared.policy.Condition.{Condition}
 use Rattle.zl_rights.specs.declared.policy.Condition.TheVariants as condition
+use Rattle.zl_code.specs.declared.image.Version.TheVariants as version
 use Rattle.zl_code.specs.declared.instr.Instr.TheVariants as instr
 use Rattle.zl_code.specs.declared.instr.LocalInstr.TheVariants as local
 use Rattle.zl_code.specs.declared.history.CallName.{CallName}
@@ -12,7 +14,7 @@ use Rattle.zl_abs.specs.declared.cause.Cause.TheVariants as cause
 use Rattle.zl_abs.proofs.Infer.{Typed, Refused, Conflicts, verdict, searching}
 
 abbrev image : ℕ → List Condition → List Start → List SlotArray → List Instr → Image
-image memory needs starts slots code = record { raw = false; memory = memory; budget = 100; needs = needs; starts = starts; slots = slots; code = code }
+image memory needs starts slots code = record blank_image { memory = memory; budget = 100; needs = needs; starts = starts; slots = slots; code = code }
 
 -- a program that declares nothing
 abbrev plain : List Instr → Image
@@ -121,6 +123,26 @@ waits : verdict (image 0 [] (record { kind = Some kind.Event; rights = rights_of
     own (local.Const 2 8) ∷ own (local.Const 2 8) ∷ own (local.Const 2 8) ∷ ask name.WaitOne (3 ∷ 0 ∷ 2 ∷ 4 ∷ []) ∷ exit 4 ∷ [])) ≡ Typed
 unfolding searching
 waits = refl
+
+-- ---- counted blocks
+
+-- a program that signals its event and then does this, in a block that is gone round so many times
+abbrev block : ℕ → Instr → Image
+block count behind =
+    record (with_event (own (local.Rep count 3) ∷ ask name.Signal (2 ∷ 0 ∷ 4 ∷ 4 ∷ []) ∷ behind ∷ own (local.EndRep 0) ∷ exit 2 ∷ [])) { version = version.Two }
+
+signalled_twice : verdict (block 2 (own (local.Const 5 1))) ≡ Typed
+unfolding searching
+signalled_twice = refl
+
+closed_behind : verdict (block 1 (ask name.Close (2 ∷ 0 ∷ []))) ≡ Typed
+unfolding searching
+closed_behind = refl
+
+-- The block is gone round again, where the event may be closed.
+closed_between : verdict (block 2 (ask name.Close (2 ∷ 0 ∷ []))) ≡ Refused 1 cause.NotLive
+unfolding searching
+closed_between = refl
 
 -- ---- the other causes
 

@@ -2,6 +2,7 @@
 use Rattle.zl_abs.proofs.Common.{Bool, CallInstr, Err, Image, Instr, IsTrue, List, LocalInstr, None, Option, Some, State, [], and_parts, and_then, arith}
 use Rattle.zl_abs.proofs.Common.{call_in, call_rule, edges, instr_at, is_call_in_range, is_in_range, is_instr_in_range, length, list_all, local_in, local_rule}
 use Rattle.zl_abs.proofs.Common.{none-some, ranges, refl, rule_by, rule_with, same_Some, slice_get, suc, sym, target_of, true, zero, ℕ, ◌<◌, ◌∷◌, ◌≡◌, ◌≤◌}
+use Rattle.zl_code.specs.declared.image.Version.{Version}
 use Rattle.zl_code.specs.declared.instr.Instr.TheVariants as instr
 use Rattle.zl_abs.specs.declared.cause.Cause.TheVariants as cause
 use Rattle.std.proofs.lemmas.Option.{slice_get_past}
@@ -53,15 +54,15 @@ nothing_there bounds i n s h = rw (slice_get_past i.code n h) refl
 
 -- ---- a call of an image is in range
 
-one_of : (raw : Bool) (code : List Instr) (n : ℕ) (x : CallInstr) → list_all (is_instr_in_range raw) code ≡ true → Some x ≡ call_in (slice_get code n)
-    → IsTrue (is_call_in_range x)
-one_of raw [] n x h e = absurd (none-some x (sym e))
-one_of raw (instr.Call y ∷ code) zero x h e =
+one_of : (v : Version) (raw : Bool) (code : List Instr) (n : ℕ) (x : CallInstr) → list_all (is_instr_in_range v raw) code ≡ true
+    → Some x ≡ call_in (slice_get code n) → IsTrue (is_call_in_range x)
+one_of v raw [] n x h e = absurd (none-some x (sym e))
+one_of v raw (instr.Call y ∷ code) zero x h e =
     let p : x ≡ y = same_Some x y e in
-    rw p ((and_parts (is_instr_in_range raw (instr.Call y)) (list_all (is_instr_in_range raw) code) h).0)
-one_of raw (instr.Local y ∷ code) zero x h e = absurd (none-some x (sym e))
-one_of raw (instr.Unknown y ∷ code) zero x h e = absurd (none-some x (sym e))
-one_of raw (y ∷ code) (suc n) x h e = one_of raw code n x ((and_parts (is_instr_in_range raw y) (list_all (is_instr_in_range raw) code) h).1) e
+    rw p ((and_parts _ _ ((and_parts (is_instr_in_range v raw (instr.Call y)) (list_all (is_instr_in_range v raw) code) h).0)).1)
+one_of v raw (instr.Local y ∷ code) zero x h e = absurd (none-some x (sym e))
+one_of v raw (instr.Unknown y ∷ code) zero x h e = absurd (none-some x (sym e))
+one_of v raw (y ∷ code) (suc n) x h e = one_of v raw code n x ((and_parts (is_instr_in_range v raw y) (list_all (is_instr_in_range v raw) code) h).1) e
 
 pub call_in_range : (i : Image) (n : ℕ) (x : CallInstr) → IsTrue (is_in_range i) → Some x ≡ call_in (instr_at i n) → IsTrue (is_call_in_range x)
-call_in_range i n x h e = one_of i.raw i.code n x (ranges i h).code e
+call_in_range i n x h e = one_of i.version i.raw i.code n x (ranges i h).code e

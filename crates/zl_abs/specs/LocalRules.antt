@@ -1,11 +1,14 @@
 -- The rules of the local instructions, row by row.
 use Rattle.std.specs.Prelude.{ℕ, ◌+◌, ◌-◌, ◌/◌, ◌^◌, Bool, true, false, ◌&&◌, not, ◌==◌, nat_lt, nat_le, List, map, Option, Some, None, Result, Ok, Err, if◌then◌else◌, slice_get, slice_set, bit_or}
 use Rattle.std.specs.Option.{option_map}
+use Rattle.std.specs.Bool.{then_some}
 use Rattle.zl_rights.specs.declared.kind.Kind.{Kind}
 use Rattle.zl_rights.specs.Numbers.{all_kinds, bits, rights_of, within, same_kind, KNOWN_RIGHTS}
 use Rattle.zl_code.specs.declared.image.SlotArray.{SlotArray}
+use Rattle.zl_code.specs.declared.instr.Instr.{Instr}
 use Rattle.zl_code.specs.declared.instr.LocalInstr.{LocalInstr}
 use Rattle.zl_code.specs.declared.instr.LocalInstr.TheVariants as local
+use Rattle.zl_code.specs.Blocks.{imm_of, marks_of}
 use Rattle.zl_code.specs.Image.{Image}
 use Rattle.zl_code.specs.Spells.{kind_among}
 use Rattle.zl_abs.specs.declared.value.AbsVal.{AbsVal}
@@ -200,6 +203,16 @@ has_ways s imm v = Ok (record { jumped = Some s; passed = Some s })
 abbrev pub unless : Result Ways Cause → Result Ways Cause
 unless w = and_then w (λ x. Ok (turned x))
 
+-- ---- counted blocks
+
+-- the block that begins at this rep is gone round more than once
+abbrev pub goes_round_again : List Instr → ℕ → Bool
+goes_round_again code rep = nat_le 2 (imm_of (marks_of code) rep)
+
+-- the block that began at this rep is left, or gone round once more
+abbrev pub ends_turn : List Instr → State → ℕ → Ways
+ends_turn code s rep = record { jumped = then_some (goes_round_again code rep) s; passed = Some s }
+
 -- ---- the rows
 
 -- what the rule of a local instruction gives, with these bounds
@@ -229,3 +242,5 @@ local_rule bounds i (local.JumpBelow a imm target) s = below_ways s a imm
 local_rule bounds i (local.JumpNotBelow a imm target) s = unless (below_ways s a imm)
 local_rule bounds i (local.JumpHas a imm target) s = has_ways s imm (value_at s a)
 local_rule bounds i (local.JumpHasNot a imm target) s = unless (has_ways s imm (value_at s a))
+local_rule bounds i (local.Rep imm end) s = Ok (passes s)
+local_rule bounds i (local.EndRep rep) s = Ok (ends_turn i.code s rep)

@@ -1,8 +1,9 @@
 -- The rule of each instruction with its edges, and what a typing of an image is.
-use Rattle.std.specs.Prelude.{ℕ, ◌≡◌, List, [], ◌∷◌, length, Option, Some, None, Result, Ok, Err, IsTrue}
+use Rattle.std.specs.Prelude.{ℕ, ◌≡◌, ◌+◌, List, [], ◌∷◌, length, Option, Some, None, Result, Ok, Err, IsTrue}
 use Rattle.zl_code.specs.declared.instr.Instr.{Instr}
 use Rattle.zl_code.specs.declared.instr.Instr.TheVariants as instr
 use Rattle.zl_code.specs.declared.instr.LocalInstr.{LocalInstr}
+use Rattle.zl_code.specs.declared.instr.LocalInstr.TheVariants as local
 use Rattle.zl_code.specs.Image.{Image, instr_at}
 use Rattle.zl_code.specs.Spells.{local_parts}
 use Rattle.zl_abs.specs.declared.cause.Cause.{Cause}
@@ -15,8 +16,10 @@ use Rattle.zl_abs.specs.CallRules.{call_rule}
 
 -- ---- the rule of an instruction
 
--- where an instruction may jump
+-- where an instruction may jump: an endrep behind its rep, and a rep nowhere
 abbrev pub target_of : LocalInstr → ℕ
+target_of (local.Rep imm end) = 0
+target_of (local.EndRep rep) = rep + 1
 target_of i = (local_parts i).target
 
 -- the edges that are followed from the instruction, which stands at this place

@@ -36,6 +36,7 @@ fn imm_of_local(local: &LocalInstr) -> Option<u32>
         | LocalInstr::StoreByte { offset, .. }
         | LocalInstr::StoreWord { offset, .. } => Some(*offset),
         LocalInstr::JumpHas { bits, .. } | LocalInstr::JumpHasNot { bits, .. } => Some(*bits),
+        LocalInstr::Rep { count, .. } => Some(*count),
         _ => None,
     }
 }

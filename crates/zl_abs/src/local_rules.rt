@@ -3,8 +3,8 @@
 ghost use Rattle.std.specs.Prelude.{◌≡◌, ◌≤◌, slice_get};
 ghost use Rattle.zl_abs.specs.Values.{smaller};
 ghost use Rattle.zl_abs.specs.Found.{bounds_in};
-ghost use Rattle.zl_abs.specs.LocalRules.{adds, adds_number, computes, copies, in_memory, loads, local_rule, may_move, meets, mixes, shifted, shifts_down, shifts_up, slot_fault, stores, swaps_in, takes};
-ghost use Rattle.zl_abs.specs.Changes.{ways_told};
+ghost use Rattle.zl_abs.specs.LocalRules.{adds, adds_number, computes, copies, in_memory, loads, local_rule, may_move, meets, mixes, shifted, shifts_down, shifts_up, slot_fault, stores, swaps_in, takes, goes_round_again, ends_turn};
+ghost use Rattle.zl_abs.specs.Changes.{ways_by, ways_told};
 
 use crate::cause::Cause;
 use crate::change::Change;
@@ -13,7 +13,7 @@ use crate::round_up::Rounding;
 use crate::state::AbsState;
 use crate::value::{AbsVal, is_kind_below, is_register};
 use crate::ways::Changes;
-use zl_code::{Image, LocalInstr, Register, SlotArray};
+use zl_code::{Image, LocalInstr, Mark, Register, SlotArray};
 
 /// The register becomes a word up to the next bound from the number on.
 fn compute(
@@ -266,6 +266,26 @@ fn shift_right(
     compute(bounds, state, register, shift_down(most, places))
 }
 
+/// Whether the block that begins at this rep is gone round more than once.
+fn goes_round_again(image: &Image, rep: u32) -> bool
+    ensures { result ≡ goes_round_again image.now.code rep }
+{
+    match image.mark_at(rep as usize) {
+        Some(Mark::Rep { imm, .. }) => imm >= 2,
+        _ => false,
+    }
+}
+
+/// The block that began at this rep is left, or gone round once more.
+fn end_turn(image: &Image, state: &AbsState, rep: u32) -> Changes
+    ensures { ways_by state.now result ≡ ends_turn image.now.code state.now rep }
+{
+    Changes {
+        jumped: goes_round_again(image, rep).then_some(Change::Same),
+        passed: Some(Change::Same),
+    }
+}
+
 /// The edges that are followed from the local instruction, or why its rule doesn't hold.
 #[tactic(auto, unfolding(crate::specs::LocalRules::local_rule))]
 pub(crate) fn local_rule(
@@ -386,5 +406,7 @@ pub(crate) fn local_rule(
         LocalInstr::JumpHasNot { register, bits, .. } => {
             turned(state, jump_has(state, bits, state.get(register)))
         }
+        LocalInstr::Rep { .. } => Ok(Changes::passing(state, Change::Same)),
+        LocalInstr::EndRep { rep } => Ok(end_turn(image, state, rep)),
     }
 }

@@ -52,11 +52,24 @@ fn edge_of(state: &AbsState, step: &Option<Step>) -> Option<Edge>
     })
 }
 
-/// Where the instruction may jump, 0 where it doesn't jump.
-fn target_of(local: &LocalInstr) -> u32
+/// Where the instruction may jump, an endrep behind its rep; 0 where it doesn't jump.
+#[tactic(auto, unfolding(zl_code::specs::Spells::local_parts))]
+fn target_of(local: &LocalInstr) -> usize
     ensures { result ≡ target_of local.now }
 {
-    local.target().unwrap_or(0)
+    match local {
+        LocalInstr::Jump { target }
+        | LocalInstr::JumpZero { target, .. }
+        | LocalInstr::JumpNotZero { target, .. }
+        | LocalInstr::JumpEqual { target, .. }
+        | LocalInstr::JumpNotEqual { target, .. }
+        | LocalInstr::JumpBelow { target, .. }
+        | LocalInstr::JumpNotBelow { target, .. }
+        | LocalInstr::JumpHas { target, .. }
+        | LocalInstr::JumpHasNot { target, .. } => *target as usize,
+        LocalInstr::EndRep { rep } => *rep as usize + 1,
+        _ => 0,
+    }
 }
 
 /// The edges that are followed from the call, which is the instruction of this number, or why its
@@ -90,7 +103,7 @@ pub fn jump_target(image: &Image, at: usize) -> usize
     ensures { result ≡ jump_of image.now at }
 {
     match image.local_at(at) {
-        Some(local) => target_of(&local) as usize,
+        Some(local) => target_of(&local),
         None => 0,
     }
 }

@@ -54,20 +54,14 @@ fn steps_of(
     image: &Image,
     state: &AbsState,
     place: usize,
-    target: u32,
+    target: usize,
     changes: &Changes,
 ) -> Result<Steps, Cause>
     requires { place < most_instructions }
     ensures { steps_told state.now result
         ≡ edges (length image.now.code) place target (ways_by state.now changes.now) }
 {
-    let jump = step_to(
-        image,
-        state,
-        Cause::BadJump,
-        target as usize,
-        changes.jumped,
-    )?;
+    let jump = step_to(image, state, Cause::BadJump, target, changes.jumped)?;
     let next = step_to(image, state, Cause::FallsOff, place + 1, changes.passed)?;
     Ok(Steps { jump, next })
 }
@@ -77,7 +71,7 @@ pub(crate) fn steps_from(
     image: &Image,
     state: &AbsState,
     place: usize,
-    target: u32,
+    target: usize,
     changes: Result<Changes, Cause>,
 ) -> Result<Steps, Cause>
     requires { place < most_instructions }

@@ -8,10 +8,12 @@ use Rattle.zl_verify.proofs.Common.{nat_le, nat_lt, nat_tests, not, number_of, o
 use Rattle.zl_verify.proofs.Common.{slice_get, slice_index_or, slice_set, slot_fault, smaller, stores, subst, suc, swaps, swaps_by, swaps_in, sym, take}
 use Rattle.zl_verify.proofs.Common.{target_of, true, unless, value_at, with_value, within, word_at, writes, xor_lt, zero, zero_ways, ℕ, ◌%◌, ◌&&◌, ◌*◌, ◌+◌}
 use Rattle.zl_verify.proofs.Common.{◌-◌, ◌/◌, ◌<◌, ◌==◌, ◌^◌, ◌∷◌, ◌≡◌, ◌≢◌, ◌≤◌, ◌⊎◌}
-use Rattle.zl_code.specs.Local.{wrapped, loads as loads_from, stores as stores_to, goes_if}
+use Rattle.zl_code.specs.Blocks.{imm_of, marks_of}
+use Rattle.zl_code.specs.Limits.{most_blocks}
+use Rattle.zl_code.specs.Local.{wrapped, loads as loads_from, stores as stores_to, goes_if, turns_by}
 use Rattle.zl_abs.specs.Outcome.{Outcome}
 use Rattle.zl_abs.specs.Bounds.{least_from}
-use Rattle.zl_abs.specs.LocalRules.{takes}
+use Rattle.zl_abs.specs.LocalRules.{ends_turn, goes_round_again, takes}
 use Rattle.zl_code.specs.declared.instr.LocalInstr.TheVariants as local
 use Rattle.zl_abs.specs.declared.cause.Cause.TheVariants as cause
 use Rattle.zl_verify.proofs.Writing.{write_word, write_copy}
@@ -117,6 +119,17 @@ Arrives f i n target (Ok w) None = ⊥
 Arrives f i n target (Ok w) (Some c) =
     IsMemory i c.memory
     × (((c.counter ≡ target) × Known f c.registers i.slots c.slots w.jumped) ⊎ ((c.counter ≡ n + 1) × Known f c.registers i.slots c.slots w.passed))
+
+-- of so many turns one is left
+abbrev pub HasTurn : ℕ → List ℕ → Type 0
+HasTurn imm [] = ⊥
+HasTurn imm (n ∷ ns) = n ≤ imm
+
+-- a rep has room for its counter, and an endrep has one
+abbrev pub CanTurn : Image → Cpu → LocalInstr → Type 0
+CanTurn i c (local.Rep imm e) = nat_lt (length c.counters) most_blocks ≡ true
+CanTurn i c (local.EndRep rep) = HasTurn (imm_of (marks_of i.code) rep) c.counters
+CanTurn i c _ = Unit {0}
 
 module _ {f : Table} {i : Image} {s : State} (c : Cpu) (h : Holds f s c.registers i.slots c.slots) (states : IsState s) (memory : IsMemory i c.memory)
     (target : ℕ) where
@@ -240,73 +253,88 @@ module _ {f : Table} {i : Image} {s : State} (c : Cpu) (h : Holds f s c.register
 
 module _ {f : Table} {i : Image} {s : State} (c : Cpu) (h : Holds f s c.registers i.slots c.slots) (states : IsState s) (memory : IsMemory i c.memory)
     (known : (v : ℕ) (e : Entry) → f v ≡ Some e → within (bits e.rights) KNOWN_RIGHTS ≡ true) (bounds : List ℕ) where
-  pub agrees : (x : LocalInstr) → is_local_in_range x ≡ true → Arrives f i c.counter (target_of x) (local_rule bounds i x s) (local_effect x c)
+  pub agrees : (x : LocalInstr) → is_local_in_range x ≡ true → CanTurn i c x → Arrives f i c.counter (target_of x) (local_rule bounds i x s) (local_effect x c)
   unfolding local_rule local_effect local_parts
-  agrees (local.Const a imm) r =
+  agrees (local.Const a imm) r u =
       word_written c h states memory 0 a (capped imm) imm (first_in imm 0 a [] r) (imm_in imm 0 (a ∷ []) r) (let k = imm_in imm 0 (a ∷ []) r in omega arith)
-  agrees (local.Move a b) r = copied c h states memory 0 a b (first_in 0 0 a (b ∷ []) r)
-  agrees (local.Add a b d) r =
+  agrees (local.Move a b) r u = copied c h states memory 0 a b (first_in 0 0 a (b ∷ []) r)
+  agrees (local.Add a b d) r u =
       with_word c h states memory 0 b _ _ (λ m le p. with_word c h states memory 0 d _ _ (λ n le2 p2.
       computed c h states memory 0 bounds a (capped (m + n)) _ (first_in 0 0 a (b ∷ d ∷ []) r) (wrapped_few (reg c b + reg c d))
       (sum_fits (reg c b + reg c d) (m + n) (omega arith))))
-  agrees (local.AddNumber a b imm) r =
+  agrees (local.AddNumber a b imm) r u =
       with_word c h states memory 0 b _ _ (λ m le p.
       computed c h states memory 0 bounds a (capped (m + imm)) _ (first_in imm 0 a (b ∷ []) r) (wrapped_few (reg c b + imm))
       (sum_fits (reg c b + imm) (m + imm) (omega arith)))
-  agrees (local.Subtract a b d) r =
+  agrees (local.Subtract a b d) r u =
       with_word c h states memory 0 b _ _ (λ m le p. with_word c h states memory 0 d _ _ (λ n le2 p2.
       word_written c h states memory 0 a ANY _ (first_in 0 0 a (b ∷ d ∷ []) r) (wrapped_few (reg c b + 2 ^ 64 - reg c d))
       (wrapped_few (reg c b + 2 ^ 64 - reg c d))))
-  agrees (local.And a b d) r =
+  agrees (local.And a b d) r u =
       with_word c h states memory 0 b _ _ (λ m le p. with_word c h states memory 0 d _ _ (λ n le2 p2.
       computed c h states memory 0 bounds a (smaller m n) _ (first_in 0 0 a (b ∷ d ∷ []) r)
       (let k = and_le_l (reg c b) (reg c d) in let few = h.small b in omega arith) (meet_fits (reg c b) (reg c d) m n le le2)))
-  agrees (local.Or a b d) r =
+  agrees (local.Or a b d) r u =
       with_word c h states memory 0 b _ _ (λ m le p. with_word c h states memory 0 d _ _ (λ n le2 p2.
       word_written c h states memory 0 a ANY _ (first_in 0 0 a (b ∷ d ∷ []) r) (or_few (reg c b) (reg c d) (h.small b) (h.small d))
       (or_few (reg c b) (reg c d) (h.small b) (h.small d))))
-  agrees (local.Xor a b d) r =
+  agrees (local.Xor a b d) r u =
       with_word c h states memory 0 b _ _ (λ m le p. with_word c h states memory 0 d _ _ (λ n le2 p2.
       word_written c h states memory 0 a ANY _ (first_in 0 0 a (b ∷ d ∷ []) r) (xor_few (reg c b) (reg c d) (h.small b) (h.small d))
       (xor_few (reg c b) (reg c d) (h.small b) (h.small d))))
-  agrees (local.ShiftLeft a b imm) r =
+  agrees (local.ShiftLeft a b imm) r u =
       with_word c h states memory 0 b _ _
       (λ m le p. word_written c h states memory 0 a ANY _ (first_in imm 0 a (b ∷ []) r) (up_few (reg c b) imm) (up_few (reg c b) imm))
-  agrees (local.ShiftRight a b imm) r =
+  agrees (local.ShiftRight a b imm) r u =
       with_word c h states memory 0 b _ _ (λ m le p. computed c h states memory 0 bounds a (shifted m imm) (shifted (reg c b) imm) (first_in imm 0 a (b ∷ []) r)
       (let k = down_less (reg c b) imm in let few = h.small b in omega arith) (shifted_below (reg c b) m imm le))
-  agrees (local.Take a b) r = taken c h states memory 0 a b (first_in 0 0 a (b ∷ []) r) (second_in 0 0 a b [] r)
-  agrees (local.Swap a b imm) r = swapped c h states memory 0 a b imm (first_in imm 0 a (b ∷ []) r) (slice_get i.slots imm) refl
-  agrees (local.LoadByte a b imm) r =
+  agrees (local.Take a b) r u = taken c h states memory 0 a b (first_in 0 0 a (b ∷ []) r) (second_in 0 0 a b [] r)
+  agrees (local.Swap a b imm) r u = swapped c h states memory 0 a b imm (first_in imm 0 a (b ∷ []) r) (slice_get i.slots imm) refl
+  agrees (local.LoadByte a b imm) r u =
       loaded c h states memory 0 1 255 a b imm (first_in imm 0 a (b ∷ []) r) (omega arith) (λ n. byte_less c.memory n memory.bytes)
-  agrees (local.LoadWord a b imm) r =
+  agrees (local.LoadWord a b imm) r u =
       loaded c h states memory 0 8 ANY a b imm (first_in imm 0 a (b ∷ []) r) (omega arith) (λ n. word_less c.memory n memory.bytes)
-  agrees (local.StoreByte a b imm) r = kept c h states memory 0 1 a b imm
-  agrees (local.StoreWord a b imm) r = kept c h states memory 0 8 a b imm
-  agrees (local.Jump target) r = (memory, inl (refl, h))
-  agrees (local.JumpZero a target) r =
+  agrees (local.StoreByte a b imm) r u = kept c h states memory 0 1 a b imm
+  agrees (local.StoreWord a b imm) r u = kept c h states memory 0 8 a b imm
+  agrees (local.Jump target) r u = (memory, inl (refl, h))
+  agrees (local.JumpZero a target) r u =
       split_ends c h states memory target (reg c a == 0) (zero_ways s a (value_at s a))
       (zero_splits h states a (there c h states memory target a (first_in 0 target a [] r)) (value_at s a) refl)
-  agrees (local.JumpNotZero a target) r =
+  agrees (local.JumpNotZero a target) r u =
       split_ends c h states memory target (not (reg c a == 0)) (unless (zero_ways s a (value_at s a)))
       (unless_splits _ (reg c a == 0) (zero_ways s a (value_at s a))
       (zero_splits h states a (there c h states memory target a (first_in 0 target a [] r)) (value_at s a) refl))
-  agrees (local.JumpEqual a imm target) r =
+  agrees (local.JumpEqual a imm target) r u =
       split_ends c h states memory target (reg c a == imm) (equal_ways s a imm (value_at s a))
       (equal_splits h states a imm (there c h states memory target a (first_in imm target a [] r)) (value_at s a) refl)
-  agrees (local.JumpNotEqual a imm target) r =
+  agrees (local.JumpNotEqual a imm target) r u =
       split_ends c h states memory target (not (reg c a == imm)) (unless (equal_ways s a imm (value_at s a)))
       (unless_splits _ (reg c a == imm) (equal_ways s a imm (value_at s a))
       (equal_splits h states a imm (there c h states memory target a (first_in imm target a [] r)) (value_at s a) refl))
-  agrees (local.JumpBelow a imm target) r =
+  agrees (local.JumpBelow a imm target) r u =
       split_ends c h states memory target (nat_lt (reg c a) imm) (below_ways s a imm)
       (below_splits h states a imm (there c h states memory target a (first_in imm target a [] r)))
-  agrees (local.JumpNotBelow a imm target) r =
+  agrees (local.JumpNotBelow a imm target) r u =
       split_ends c h states memory target (not (nat_lt (reg c a) imm)) (unless (below_ways s a imm))
       (unless_splits _ (nat_lt (reg c a) imm) (below_ways s a imm)
       (below_splits h states a imm (there c h states memory target a (first_in imm target a [] r))))
-  agrees (local.JumpHas a imm target) r =
+  agrees (local.JumpHas a imm target) r u =
       split_ends c h states memory target (within imm (reg c a)) (has_ways s imm (value_at s a)) (has_splits h states known a imm (value_at s a) refl)
-  agrees (local.JumpHasNot a imm target) r =
+  agrees (local.JumpHasNot a imm target) r u =
       split_ends c h states memory target (not (within imm (reg c a))) (unless (has_ways s imm (value_at s a)))
       (unless_splits _ (within imm (reg c a)) (has_ways s imm (value_at s a)) (has_splits h states known a imm (value_at s a) refl))
+  agrees (local.Rep imm e) r u = rw u (memory, inr (refl, h))
+  agrees (local.EndRep rep) r u = by c.counters u
+    where
+      by : (ns : List ℕ) → HasTurn (imm_of (marks_of i.code) rep) ns
+          → Arrives f i c.counter (rep + 1) (Ok (ends_turn i.code s rep)) (turns_by c rep ns)
+      by [] u = u
+      by (n ∷ ns) u = again (nat_lt 1 n) refl
+        where
+          more : nat_lt 1 n ≡ true → goes_round_again i.code rep ≡ true
+          more e = grind (arith, nat_tests)
+
+          again : (b : Bool) → nat_lt 1 n ≡ b → Arrives f i c.counter (rep + 1) (Ok (ends_turn i.code s rep))
+              (if b then Some (record c { counters = (n - 1) ∷ ns; counter = rep + 1 }) else Some (record c { counters = ns; counter = c.counter + 1 }))
+          again true e = (memory, inl (refl, rw (more e) h))
+          again false e = (memory, inr (refl, h))

@@ -3,6 +3,8 @@ use Rattle.zl_verify.proofs.Common.{AtCall, CallInstr, CallName, Cause, Conditio
 use Rattle.zl_verify.proofs.Common.{RuleHolds, Site, Some, StandsAtCall, State, Ways, World, and_then, ap, bounds_of, by_policy, call_at, call_in, call_rule}
 use Rattle.zl_verify.proofs.Common.{calls_at, edges, goes_on, if◌then◌else◌, inl, inr, instr_at, is_call_in_range, is_declared, length, local_effect, moves}
 use Rattle.zl_verify.proofs.Common.{next_at, next_of, passes, ranges, refl, rule_with, site_of, stops, true, uses_of, with_all, ℕ, ◌∙◌, ◌≡◌, ◌⊎◌}
+use Rattle.zl_verify.proofs.Common.{both, call_row}
+use Rattle.zl_code.specs.Instructions.{is_known}
 use Rattle.zl_code.specs.declared.instr.Instr.TheVariants as instr
 use Rattle.zl_abs.proofs.FineRules.{in_range_at}
 use Rattle.zl_verify.proofs.Aligned.{aligned}
@@ -76,7 +78,9 @@ module _ (i : Image) (t : ℕ → Option State) (w : World) (p : ℕ) (q : Proce
     holds_here = rw at.stands at (k.typing.holds q.cpu.counter k.conforms.state k.conforms.stands)
 
     in_range_here : is_call_in_range at.call ≡ true
-    in_range_here = rw at.stands at (in_range_at i.raw i.code q.cpu.counter (ranges i k.range).code)
+    in_range_here =
+        (both (is_known i.version (call_row at.call.name).opcode) (is_call_in_range at.call)
+        (rw at.stands at (in_range_at i.version i.raw i.code q.cpu.counter (ranges i k.range).code))).1
 
     ruled : (ways : Ways) → call_rule (bounds_of i.code) i at.call k.conforms.state ≡ Ok ways
         → RuleHolds t (and_then (Ok ways) (edges (length i.code) q.cpu.counter 0)) → IsRuled i t w p q called s k.conforms.state

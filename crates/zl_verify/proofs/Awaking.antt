@@ -1,11 +1,13 @@
 -- A process that waits as its typing says gets an answer that fits: then it stands at the end of a followed edge, as the typing says there.
-use Rattle.zl_verify.proofs.Common.{ANY, Blocked, Bool, CallInstr, CallName, Cause, Conforms, Err, Holds, Image, Instr, IsMemory, IsSizedPacket, IsTyping, Life}
-use Rattle.zl_verify.proofs.Common.{List, None, Ok, OneOf, Option, Packet, PacketAt, Process, Ready, Result, RuleHolds, SignalOf, Site, Some, State, Uses}
-use Rattle.zl_verify.proofs.Common.{WaitsAt, Ways, Word, World, [], and_then, answered, ap, arith, bounds_of, by_policy, call_at, call_in, call_rule}
-use Rattle.zl_verify.proofs.Common.{condition_of, cpu_answered, edges, ends_of, get, goes_on, handle_operands, if◌then◌else◌, inr, instr_at, is_call_in_range}
-use Rattle.zl_verify.proofs.Common.{is_in_range, length, packet_values, passes, port_wait, ranges, refl, reg, rounded, rule_with, site, site_of, slice_index}
-use Rattle.zl_verify.proofs.Common.{slice_set, stops, subst, sym, taken_handles, targets_of, true, uses_of, wait_one, waits_for, with_all, with_value, ℕ, ◌∙◌}
-use Rattle.zl_verify.proofs.Common.{◌∷◌, ◌≡◌, ◌≤◌}
+use Rattle.zl_verify.proofs.Common.{ANY, AreCountersAt, Blocked, Bool, CallInstr, CallName, Cause, Conforms, Err, Holds, Image, Instr, IsMemory, IsSizedPacket}
+use Rattle.zl_verify.proofs.Common.{IsTyping, Life, List, None, Ok, OneOf, Option, Packet, PacketAt, Process, Ready, Result, RuleHolds, SignalOf, Site, Some}
+use Rattle.zl_verify.proofs.Common.{State, Uses, WaitsAt, Ways, Word, World, [], and_then, answered, ap, arith, bounds_of, by_policy, call_at, call_in}
+use Rattle.zl_verify.proofs.Common.{call_rule, condition_of, cpu_answered, edges, ends_of, get, goes_on, handle_operands, if◌then◌else◌, inr, instr_at}
+use Rattle.zl_verify.proofs.Common.{is_call_in_range, is_in_range, length, packet_values, passes, port_wait, ranges, refl, reg, rounded, rule_with, site}
+use Rattle.zl_verify.proofs.Common.{site_of, slice_index, slice_set, stops, subst, sym, taken_handles, targets_of, true, uses_of, wait_one, waits_for, with_all}
+use Rattle.zl_verify.proofs.Common.{with_value, ℕ, ◌∙◌, ◌∷◌, ◌≡◌, ◌≤◌}
+use Rattle.zl_verify.proofs.Common.{both, call_row}
+use Rattle.zl_code.specs.Instructions.{is_known}
 use Rattle.zl_verify.specs.Conforms.{answered_in}
 use Rattle.zl_rights.specs.declared.status.Status.TheVariants as status
 use Rattle.zl_code.specs.declared.instr.Instr.TheVariants as instr
@@ -20,6 +22,7 @@ use Rattle.zl_verify.proofs.OwnTable.{losing_all}
 use Rattle.zl_verify.proofs.Sites.{call}
 use Rattle.zl_verify.proofs.Standing.{HasRule, has_rule, Stands, left, left_there, zeroed, answer_holds}
 use Rattle.zl_verify.proofs.Working.{packets_fit}
+use Rattle.zl_verify.proofs.Blocks.{call_counted}
 
 -- all that `Conforms` says of a process but what its job allows
 pub record IsTyped (i : Image) (t : ℕ → Option State) (q : Process) : Type 0 where
@@ -27,14 +30,16 @@ pub record IsTyped (i : Image) (t : ℕ → Option State) (q : Process) : Type 0
   pub stands : t q.cpu.counter ≡ Some state
   pub holds : Holds (get q.handles) state q.cpu.registers i.slots q.cpu.slots
   pub memory : IsMemory i q.cpu.memory
+  pub counters : AreCountersAt i q.cpu.counter q.cpu.counters
   pub waits : WaitsAt q.state (call_at i q.cpu.counter)
 
 pub is_typed : (i : Image) (t : ℕ → Option State) (w : World) (p : ℕ) (q : Process) → Conforms i t w p q → IsTyped i t q
-is_typed i t w p q k = record { state = k.state; stands = k.stands; holds = k.holds; memory = k.memory; waits = k.waits }
+is_typed i t w p q k = record { state = k.state; stands = k.stands; holds = k.holds; memory = k.memory; counters = k.counters; waits = k.waits }
 
 -- what q becomes by its answer
 pub record IsAwake (i : Image) (t : ℕ → Option State) (q after : Process) : Type 0 where
   pub follows : OneOf (λ n. after.cpu.counter ≡ n) (ends_of i t q.cpu.counter)
+  pub counters : after.cpu.counters ≡ q.cpu.counters
   pub ready : after.state ≡ Ready
   pub program : after.program ≡ q.program
   pub typed : IsTyped i t after
@@ -55,7 +60,9 @@ module _ (i : Image) (t : ℕ → Option State) (range : is_in_range i ≡ true)
     holds_here = rw is at (typing.holds q.cpu.counter k.state k.stands)
 
     in_range_here : is_call_in_range x ≡ true
-    in_range_here = rw is at (in_range_at i.raw i.code q.cpu.counter (ranges i range).code)
+    in_range_here =
+        (both (is_known i.version (call_row x.name).opcode) (is_call_in_range x)
+        (rw is at (in_range_at i.version i.raw i.code q.cpu.counter (ranges i range).code))).1
 
     leads_here : (ways : Ways) → call_rule (bounds_of i.code) i x k.state ≡ Ok ways
         → targets_of (and_then (Ok ways) (edges (length i.code) q.cpu.counter 0)) ≡ ends_of i t q.cpu.counter
@@ -95,11 +102,20 @@ module _ (i : Image) (t : ℕ → Option State) (range : is_in_range i ≡ true)
           let known : Known (get q.handles) after.cpu.registers i.slots q.cpu.slots ways.passed = rw passes_on holds_after in
           let arrives : Arrives (get q.handles) i q.cpu.counter 0 (Ok ways) (Some after.cpu) = (k.memory, inr (refl, known)) in
           let r = reached t (get q.handles) i after.cpu (length i.code) q.cpu.counter 0 (Ok ways) leads_on arrives in
+          let follows = subst (OneOf (λ n. after.cpu.counter ≡ n)) (leads_here ways rule) r.1.follows in
           record {
-            follows = subst (OneOf (λ n. after.cpu.counter ≡ n)) (leads_here ways rule) r.1.follows;
+            follows = follows;
+            counters = refl;
             ready = refl;
             program = refl;
-            typed = record { state = r.1.state; stands = r.1.stands; holds = r.1.holds; memory = r.0; waits = tt };
+            typed = record {
+              state = r.1.state;
+              stands = r.1.stands;
+              holds = r.1.holds;
+              memory = r.0;
+              counters = call_counted i range t q.cpu.counter after.cpu.counter q.cpu.counters x is k.counters follows;
+              waits = tt;
+            };
           }
 
     awake_at : ((r : State) (xs : List ℕ) → Fits (get q.handles) r xs u.results (0 ∷ values) (get q.handles)) → IsAwake i t q after

@@ -1,10 +1,12 @@
 -- A process that conforms is never refused for a handle, no policy ends it, and it keeps its budget, till it ends itself or another kills it.
-use Rattle.zl_verify.proofs.Common.{AllBelow, AllByRecursion, Awaited, Blocked, Conforms, Ended, HasEnded, Image, IsBelow, IsFineItem, IsFitStep, IsSizedBoot}
+use Rattle.zl_verify.proofs.Common.{AllBelow, AllByRecursion, Awaited, Blocked, CallInstr, Conforms, Ended, HasEnded, Image, IsFineItem, IsFitStep, IsSizedBoot}
 use Rattle.zl_verify.proofs.Common.{IsSomeAnd, IsStepBound, IsTyping, IsUnderWay, KILLED, KeepsBudget, Library, List, None, OneOf, Option, OthersLeave, Process}
-use Rattle.zl_verify.proofs.Common.{Ready, Runs, Some, State, Statement, TraceItem, World, [], ap, arith, call_at, cases_Bool, eqb-true, executed, false, get}
-use Rattle.zl_verify.proofs.Common.{has_ended, inl, inr, is_in_range, is_pause, left_so, nat_le, nat_tests, pid_of, refl, runs, same_Some, slice_get, stays}
-use Rattle.zl_verify.proofs.Common.{subst, sym, true, was_killed, ℕ, ◌++◌, ◌+◌, ◌-◌, ◌<◌, ◌==◌, ◌∙◌, ◌∷◌, ◌≡◌, ◌≢◌, ◌≤◌, ◌⊎◌}
+use Rattle.zl_verify.proofs.Common.{Ready, Runs, Some, Spot, State, Statement, TraceItem, World, [], ap, arith, call_in, cases_Bool, eqb-true, executed, false}
+use Rattle.zl_verify.proofs.Common.{get, has_ended, inl, inr, instr_at, is_in_range, is_pause, is_pause_name, leads_on, left_so, nat_le, nat_tests}
+use Rattle.zl_verify.proofs.Common.{pid_of, refl, runs, same_Some, slice_get, stays, subst, sym, true, was_killed, ℕ, ◌++◌, ◌-◌, ◌<◌, ◌==◌, ◌∙◌, ◌∷◌, ◌≡◌, ◌≢◌}
+use Rattle.zl_verify.proofs.Common.{◌≤◌, ◌⊎◌}
 use Rattle.zl_code.specs.Headline.{left_behind}
+use Rattle.zl_code.specs.declared.instr.Instr.TheVariants as instr
 use Rattle.zl_verify.specs.WakeLaws.{wakes}
 use Rattle.zl_verify.proofs.Counting.{has_edge}
 use Rattle.zl_verify.proofs.Woken.{fit_of, sound_before}
@@ -88,64 +90,53 @@ module _ (lib : Library) (i : Image) (t : ℕ → Option State) (range : is_in_r
 
   -- ---- the budget
 
-  module _ (steps : ℕ → Option ℕ) (bound : IsStepBound i t steps) where
+  module _ (steps : ℕ → List ℕ → ℕ) (bound : IsStepBound i t steps) where
     -- so many instructions may follow here; as many as the budget, where it waits
     record IsCounted (q : Process) (left : ℕ) : Type 0 where
-      number : IsBelow (steps q.cpu.counter) (left + 1)
+      number : steps q.cpu.counter q.cpu.counters ≤ left
       waiting : (awaited : Awaited) (ds : List ℕ) → q.state ≡ Blocked awaited ds → left ≡ i.budget
 
     whole_budget : (w : World) (p : ℕ) (q : Process) → Conforms i t w p q → IsCounted q i.budget
-    whole_budget w p q k = record { number = bound.within q.cpu.counter k.state k.stands; waiting = λ awaited ds e. refl }
+    whole_budget w p q k = record { number = bound.within q.cpu.counter k.state q.cpu.counters k.stands k.counters; waiting = λ awaited ds e. refl }
 
-    one_below : (m k : ℕ) (ns : List ℕ) → AllBelow steps m ns → OneOf (λ n. k ≡ n) ns → IsBelow (steps k) m
-    one_below m k [] all h = absurd h
-    one_below m k (n ∷ ns) (one, all) (inl e) = subst (λ j. IsBelow (steps j) m) (sym e) one
-    one_below m k (n ∷ ns) (one, all) (inr h) = one_below m k ns all h
-
-    -- one instruction less is left
-    one_less : (o : Option ℕ) (m left : ℕ) → IsBelow o m → m < left + 1 → IsBelow o (left - 1 + 1) × (nat_le 1 left ≡ true)
-    one_less None m left h less = absurd h
-    one_less (Some k) m left h less = (omega arith, some left (omega arith))
-      where
-        some : (left : ℕ) → 1 ≤ left → nat_le 1 left ≡ true
-        some left le = grind (arith, nat_tests)
+    one_below : (q : Spot) (m : ℕ) (ps : List Spot) → AllBelow steps m ps → OneOf (λ p. q ≡ p) ps → steps q.0 q.1 < m
+    one_below q m [] all h = absurd h
+    one_below q m (p ∷ ps) (one, all) (inl e) = subst (λ (r : Spot). steps r.0 r.1 < m) (sym e) one
+    one_below q m (p ∷ ps) (one, all) (inr h) = one_below q m ps all h
 
     -- behind a number an edge leads to less, so that it isn't 0
-    some_left : (m : ℕ) (ns : List ℕ) → AllBelow steps m ns → ns ≢ [] → 1 ≤ m
+    some_left : (m : ℕ) (ps : List Spot) → AllBelow steps m ps → ps ≢ [] → 1 ≤ m
     some_left m [] all some = absurd (some refl)
-    some_left m (n ∷ ns) (one, all) some = by (steps n) one
-      where
-        by : (o : Option ℕ) → IsBelow o m → 1 ≤ m
-        by None h = absurd h
-        by (Some k) h = omega arith
+    some_left m (p ∷ ps) (one, all) some = omega arith
 
-    -- an instruction that is no pause is left where one stands
-    one_left : (w : World) (p : ℕ) (q : Process) (left : ℕ) → Conforms i t w p q → is_pause (call_at i q.cpu.counter) ≡ false → IsCounted q left
-        → nat_le 1 left ≡ true
-    one_left w p q left k no_pause c = by (steps q.cpu.counter) refl c.number
-      where
-        room : (left m : ℕ) → 1 ≤ m → m < left + 1 → nat_le 1 left ≡ true
-        room left m some less = grind (arith, nat_tests)
+    -- where a number isn't 0, an instruction is left
+    room : (left m : ℕ) → 1 ≤ m → m ≤ left → nat_le 1 left ≡ true
+    room left m some less = grind (arith, nat_tests)
 
-        by : (o : Option ℕ) → steps q.cpu.counter ≡ o → IsBelow o (left + 1) → nat_le 1 left ≡ true
-        by None at h = absurd h
-        by (Some m) at h =
-            room left m (some_left m _ (bound.falls q.cpu.counter m at)
-            (has_edge i t typing q.cpu.counter (record { state = k.state; mapped = k.stands; goes_on = no_pause }))) h
+    module _ (w : World) (p : ℕ) (q : Process) (left : ℕ) (k : Conforms i t w p q) (c : IsCounted q left) where
+      abbrev number : ℕ
+      number = steps q.cpu.counter q.cpu.counters
 
-    after_own : (w2 : World) (p : ℕ) (q y : Process) (x : TraceItem) (left : ℕ) → Conforms i t w2 p y → Went i t q y x → IsCounted q left
-        → IsSomeAnd (left_behind i.budget left (executed x)) (IsCounted y)
-    after_own w2 p q y x left k (pauses is) c = rw is (whole_budget w2 p y k)
-    after_own w2 p q y x left k (goes is follows ready) c = by (steps q.cpu.counter) refl c.number
-      where
-        no_wait : (awaited : Awaited) (ds : List ℕ) → y.state ≡ Blocked awaited ds → left - 1 ≡ i.budget
-        no_wait awaited ds e = let clash : Ready ≡ Blocked awaited ds = sym ready ∙ e in absurd cc
+      falls : AllBelow steps number (leads_on i t (q.cpu.counter, q.cpu.counters))
+      falls = bound.falls q.cpu.counter q.cpu.counters k.counters
 
-        by : (o : Option ℕ) → steps q.cpu.counter ≡ o → IsBelow o (left + 1) → IsSomeAnd (left_behind i.budget left (executed x)) (IsCounted y)
-        by None at h = absurd h
-        by (Some m) at h =
-            let less = one_less (steps y.cpu.counter) m left (one_below m y.cpu.counter _ (bound.falls q.cpu.counter m at) follows) h in
-            rw (is, less.1) (record { number = less.0; waiting = no_wait })
+      -- a call that is no pause is left where one stands
+      one_left : (x : CallInstr) → instr_at i q.cpu.counter ≡ Some (instr.Call x) → is_pause_name x.name ≡ false → nat_le 1 left ≡ true
+      one_left x is no_pause =
+          room left number (some_left number _ falls
+          (has_edge i range t typing (q.cpu.counter, q.cpu.counters) k.counters
+          (record { state = k.state; mapped = k.stands; goes_on = ap (λ o. is_pause (call_in o)) is ∙ no_pause }))) c.number
+
+      after_own : (w2 : World) (y : Process) (x : TraceItem) → Conforms i t w2 p y → Went i t q y x
+          → IsSomeAnd (left_behind i.budget left (executed x)) (IsCounted y)
+      after_own w2 y x later (pauses is) = rw is (whole_budget w2 p y later)
+      after_own w2 y x later (goes is follows ready) =
+          let less = one_below (y.cpu.counter, y.cpu.counters) number _ falls follows in
+          let most = c.number in
+          rw (is, room left number (omega arith) most) (record { number = omega arith; waiting = no_wait })
+        where
+          no_wait : (awaited : Awaited) (ds : List ℕ) → y.state ≡ Blocked awaited ds → left - 1 ≡ i.budget
+          no_wait awaited ds e = let clash : Ready ≡ Blocked awaited ds = sym ready ∙ e in absurd cc
 
     -- p is under way and counted so, or over
     abbrev CountsIn : World → ℕ → ℕ → Type 0
@@ -161,9 +152,10 @@ module _ (lib : Library) (i : Image) (t : ℕ → Option State) (range : is_in_r
 
           by : ((after : IsUnderWay lib i t w2 m) × Went i t u.process after.process x) ⊎ (HasEnded w2 m × Stopped i u.process x)
               → IsSomeAnd (left_behind i.budget left (executed x)) (CountsIn w2 m)
-          by (inl (after, went)) = then_so (left_behind i.budget left (executed x)) after (after_own w2 m u.process after.process x left after.conforms went c)
+          by (inl (after, went)) =
+              then_so (left_behind i.budget left (executed x)) after (after_own w m u.process left u.conforms c w2 after.process x after.conforms went)
           by (inr (over, by_exit is)) = rw is (inr over)
-          by (inr (over, by_kill is no_pause)) = rw (is, one_left w m u.process left u.conforms no_pause c) (inr over)
+          by (inr (over, by_kill is call at no_pause)) = rw (is, one_left w m u.process left u.conforms c call at no_pause) (inr over)
       own_counts left (inr o) = absurd (no_step lib w m x w2 b o)
 
       other_counts : (p : ℕ) → (m == p) ≡ false → (left : ℕ) → CountsIn w p left → CountsIn w2 p left

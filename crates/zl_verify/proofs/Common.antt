@@ -110,7 +110,7 @@ pub use Rattle.zl_rights.specs.declared.policy.Action.{Action}
 pub use Rattle.zl_rights.specs.declared.policy.Condition.{Condition}
 pub use Rattle.zl_rights.specs.declared.rights.Rights.{Rights}
 pub use Rattle.zl_rights.specs.declared.status.Status.{Status}
-pub use Rattle.zl_verify.specs.Ahead.{AreAhead, jump_in}
+pub use Rattle.zl_verify.specs.Ahead.{AreAhead, ahead, jump_in, onward, place_within}
 pub use Rattle.zl_verify.specs.Stretches.{AreStretches, Stretches, Out, stretch, inner_of, known, known_by, leaves_first, leaves_last, out_from, passed_on}
 pub use Rattle.zl_verify.specs.Stretches.{start_of, states_of}
 unfoldable pub use Rattle.zl_verify.specs.Stretches.{flows, inner, leaves, out}
@@ -126,12 +126,15 @@ pub use Rattle.zl_verify.specs.Lists.{at}
 pub use Rattle.zl_verify.specs.Marks.{AreMarked, AreNumbered}
 pub use Rattle.zl_verify.specs.NoLeak.{HoldsJustItsHandles, handle_values}
 unfoldable pub use Rattle.zl_verify.specs.NoLeak.{values_in_registers, values_in_slots}
-pub use Rattle.zl_verify.specs.Numbers.{AllInside, AreNumbers, IsClosed, is_over, places, places_at, places_by}
-unfoldable pub use Rattle.zl_verify.specs.Numbers.{unnumbered}
+pub use Rattle.zl_verify.specs.Nested.{IsNested, IsPacked, places, places_at, places_by, spots_from}
+pub use Rattle.zl_code.specs.Blocks.{AreCounters, marks_of}
+unfoldable pub use Rattle.zl_code.specs.Blocks.{blocks_at}
+pub use Rattle.zl_code.specs.declared.blocks.Mark.{Mark}
 pub use Rattle.zl_verify.specs.RunLaws.{HasEnded, IsFineItem, IsUnderWay}
 pub use Rattle.zl_verify.specs.Search.{cleared, raised, raised_over, turned_over}
 unfoldable pub use Rattle.zl_verify.specs.Search.{raised_all}
 pub use Rattle.zl_verify.specs.SizedLaws.{CpusAreSized, IsSized, IsSizedCpu, IsSizedObject, IsSizedWait}
-pub use Rattle.zl_verify.specs.Steps.{AllBelow, Follow, IsBelow, IsOver, IsStepBound, OneOf, is_pause, leads, leads_by, targets_of}
+pub use Rattle.zl_verify.specs.Steps.{AllBelow, AreCountersAt, Follow, IsOver, IsStepBound, OneOf, Spot, is_pause, leads, leads_by, leads_on, spots}
+pub use Rattle.zl_verify.specs.Steps.{spots_to, targets_of}
 pub use Rattle.zl_verify.specs.WakeLaws.{EndsStep, IsFitStep, IsRunStep, OthersLeave, left_so, stays, was_killed}
 pub use Rattle.zl_verify.specs.declared.steps.Targets.{Targets}

@@ -1,12 +1,12 @@
 -- The search ends: what is left to rise, and what waits. States stay fine on the way.
 use Rattle.zl_verify.proofs.Common.{AllFine, Stretches, Bool, Cause, Edge, IfOk, Image, IsFine, IsTrue, List, None, Ok, Option, Result, Some, State, []}
 use Rattle.zl_verify.proofs.Common.{all_below, all_joined, ap, arith, at, stretch, cleared, false, fine_joined, get_or, get_or_from_slice_get, if◌then◌else◌}
-use Rattle.zl_verify.proofs.Common.{inl, inr, is_in_range, length, length-set, mul-le-mul_right, option_and_then, option_map, raised, raised_all, raised_over}
+use Rattle.zl_verify.proofs.Common.{inl, inr, is_in_range, length, length-set, mul-le-mul_right, one_if, option_and_then, option_map, raised, raised_all}
+use Rattle.zl_verify.proofs.Common.{raised_over}
 use Rattle.zl_verify.proofs.Common.{refl, same_Some, slice_get, slice_set, start_of, subst, sum_by, sum_by-set, sym, true, ℕ, ◌*◌, ◌+◌, ◌-◌, ◌<◌, ◌∙◌, ◌∷◌, ◌≡◌}
 use Rattle.zl_verify.proofs.Common.{◌≢◌, ◌≤◌, ◌⊎◌}
 use Rattle.zl_abs.proofs.Room.{room, TOP, room_top, room_falls}
 use Rattle.zl_verify.specs.Lists.{within}
-use Rattle.zl_verify.specs.Numbers.{one_if}
 use Rattle.zl_verify.specs.Search.{Table, put}
 use Rattle.zl_verify.proofs.Leaving.{out_fine}
 use Rattle.zl_verify.proofs.Places.{there, get_put, get_put_other, equal_or_not}

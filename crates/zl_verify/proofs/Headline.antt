@@ -49,7 +49,7 @@ started_under_way lib i t range typing w p started = record {
   conforms = starts_conforming i t range typing lib w p started.process started.proper;
 }
 
-pub headline : (i : Image) (t : ℕ → Option State) (steps : ℕ → Option ℕ) → IsTyping i t → IsStepBound i t steps → IsNeverRefused i
+pub headline : (i : Image) (t : ℕ → Option State) (steps : ℕ → List ℕ → ℕ) → IsTyping i t → IsStepBound i t steps → IsNeverRefused i
 headline i t steps typing bound lib statements boot w after items more p begins run started rest =
     let range : is_in_range i ≡ true = in_range lib i w p begins.images started in
     let under : IsUnderWay lib i t w p = started_under_way lib i t range typing w p started in

@@ -1,17 +1,16 @@
 -- Where the instructions of a typing lead, from the edges that the code hands out.
-use Rattle.zl_verify.proofs.Common.{AllInside, AllLead, AreTargets, Bool, Cause, Err, Image, IsAbove, IsClosed, IsTyping, List, None, Ok, Option, Result, Some}
+use Rattle.zl_verify.proofs.Common.{AreTargets, Bool, Cause, Err, Image, IsPacked, List, None, Ok, Option, Result, Some}
 use Rattle.zl_verify.proofs.Common.{State, Targets, [], ap, arith, at, call_at, false, flows, if◌then◌else◌, inl, inner, inner_of, inr, is_pause, known}
 use Rattle.zl_verify.proofs.Common.{known_by, leads, leads_by, length, length-set, map, option_to_list, passed_on, places, places_at, places_by, refl, rule}
-use Rattle.zl_verify.proofs.Common.{slice_get, slice_set, states_of, subst, suc, sym, targets_of, true, unless_pause, ℕ, ◌++◌, ◌+◌, ◌<◌, ◌∙◌, ◌∷◌, ◌≡◌, ◌≢◌}
+use Rattle.zl_verify.proofs.Common.{slice_get, slice_set, states_of, subst, suc, sym, true, unless_pause, ℕ, ◌++◌, ◌+◌, ◌<◌, ◌∙◌, ◌≡◌}
 use Rattle.zl_verify.proofs.Common.{◌≤◌, ◌⊎◌}
 use Rattle.zl_abs.specs.declared.steps.Step.{Step}
 use Rattle.zl_abs.specs.declared.steps.Steps.{Steps}
 use Rattle.zl_abs.specs.Rule.{Edge as Lead}
 use Rattle.zl_abs.specs.Changes.{step_in}
-use Rattle.zl_abs.specs.Typing.{Holds}
 use Rattle.zl_verify.specs.Lists.{within}
 use Rattle.zl_verify.specs.Leading.{flow_in, target_in}
-use Rattle.zl_verify.proofs.Places.{get_put, get_put_other, get_past, equal_or_not, below_or_not, mapped}
+use Rattle.zl_verify.proofs.Places.{below_or_not, get_past, set_by}
 use Rattle.zl_verify.proofs.Filling.{length_listed, at_listed}
 use Rattle.std.proofs.lemmas.Bool.{cond_both}
 
@@ -48,21 +47,26 @@ pub record Flowing (i : Image) (numbers : List (Option ℕ)) (kept : List (Optio
     (p : ℕ) : Type 0 where
   pub long : length targets ≡ length i.code
   pub same : (n : ℕ) → n < p → places_at targets n ≡ leads_by i n (known i numbers kept n)
+  pub packed : (n : ℕ) → n < p → IsPacked (slice_get targets n)
   pub flow : flow_in there s ≡ flows i numbers kept p
 
 pub flow_begins : (i : Image) (numbers : List (Option ℕ)) (kept : List (Option State)) (targets : List Targets) (s : State) → length targets ≡ length i.code
     → Flowing i numbers kept targets false s 0
 unfolding flows
-flow_begins i numbers kept targets s h = record { long = h; same = λ n k. absurd (omega arith); flow = refl }
+flow_begins i numbers kept targets s h = record { long = h; same = λ n k. absurd (omega arith); packed = λ n k. absurd (omega arith); flow = refl }
 
 pub flow_more : (i : Image) (numbers : List (Option ℕ)) (kept : List (Option State)) (targets : List Targets) (b : Bool) (s : State) (p : ℕ)
     → Flowing i numbers kept targets b s p → p < length i.code
     → (b2 : Bool) (s2 : State) → flow_in b2 s2 ≡ known_by kept (flow_in b s) (at numbers p) → (x : Targets) → places x ≡ leads_by i p (flow_in b2 s2)
-    → (b3 : Bool) (s3 : State) → flow_in b3 s3 ≡ passed_on i numbers p (flow_in b2 s2) → Flowing i numbers kept (slice_set targets p x) b3 s3 (p + 1)
+    → IsPacked (Some x) → (b3 : Bool) (s3 : State) → flow_in b3 s3 ≡ passed_on i numbers p (flow_in b2 s2)
+    → Flowing i numbers kept (slice_set targets p x) b3 s3 (p + 1)
 unfolding flows
-flow_more i numbers kept targets b s p a inside b2 s2 known_is x places_are b3 s3 passed_is = record {
+flow_more i numbers kept targets b s p a inside b2 s2 known_is x places_are packed b3 s3 passed_is = record {
   long = length-set targets p x ∙ a.long;
-  same = λ n h. same n h (equal_or_not p n);
+  same = set_by targets p x places_by (λ n ms. n < p + 1 → ms ≡ leads_by i n (known i numbers kept n)) (omega (arith, a.long))
+      (λ h. places_are ∙ ap (leads_by i p) there) (λ n d h. a.same n (omega arith));
+  packed =
+      set_by targets p x (λ o. o) (λ n o. n < p + 1 → IsPacked o) (omega (arith, a.long)) (λ h. packed) (λ n d h. a.packed n (omega arith));
   flow = passed_is ∙ (ap (passed_on i numbers p) there ∙ behind);
 }
   where
@@ -72,16 +76,15 @@ flow_more i numbers kept targets b s p a inside b2 s2 known_is x places_are b3 s
     behind : passed_on i numbers p (known i numbers kept p) ≡ flows i numbers kept (p + 1)
     behind = let e : p + 1 ≡ suc p = omega arith in subst (λ (m : ℕ). passed_on i numbers p (known i numbers kept p) ≡ flows i numbers kept m) (sym e) refl
 
-    same : (n : ℕ) → n < p + 1 → (p ≡ n) ⊎ (p ≢ n) → places_at (slice_set targets p x) n ≡ leads_by i n (known i numbers kept n)
-    same n h (inl e) = subst (λ (m : ℕ). places_at (slice_set targets p x) m ≡ leads_by i m (known i numbers kept m)) e
-        (ap places_by (get_put targets p x (omega (arith, a.long))) ∙ (places_are ∙ ap (leads_by i p) there))
-    same n h (inr d) = ap places_by (get_put_other targets p n x d) ∙ a.same n (omega arith)
-
 pub flow_ends : (i : Image) (numbers : List (Option ℕ)) (kept : List (Option State)) (targets : List Targets) (b : Bool) (s : State) (p : ℕ)
     → Flowing i numbers kept targets b s p → length i.code ≤ p → AreTargets i (states_of i numbers kept) targets
 flow_ends i numbers kept targets b s p a past = record {
   long = a.long ∙ sym (length_listed (length i.code) (known i numbers kept));
   same = λ n. same n (below_or_not n (length i.code));
+  packed = λ n. elim (below_or_not n (length i.code)) [
+    | inl h ↦ a.packed n (omega arith)
+    | inr h ↦ (let e : slice_get targets n ≡ None = get_past targets n (omega (arith, a.long)) in rw e tt)
+  ];
 }
   where
     same : (n : ℕ) → (n < length i.code) ⊎ (length i.code ≤ n) → places_at targets n ≡ leads i (at (states_of i numbers kept)) n
@@ -91,37 +94,3 @@ flow_ends i numbers kept targets b s p a past = record {
         let f : at (states_of i numbers kept) n ≡ None =
         ap within (get_past (states_of i numbers kept) n (omega (arith, length_listed (length i.code) (known i numbers kept)))) in
         ap places_by e ∙ ap (leads_by i n) (sym f)
-
--- ---- a typing's instructions lead to such that have a state
-
-inside_all : (states : List (Option State)) (es : List Lead) → AllLead (at states) es → AllInside (length states) (map (λ e. e.0) es)
-inside_all states [] k = tt
-inside_all states (e ∷ es) k = (one (at states (e.0)) refl (k.0), inside_all states es (k.1))
-  where
-    one : (o : Option State) → at states (e.0) ≡ o → IsAbove o (e.1) → e.0 < length states
-    one None q a = absurd a
-    one (Some s) q a = mapped states (e.0) s q
-
-inside_unless : (size : ℕ) (b : Bool) (ns : List ℕ) → AllInside size ns → AllInside size (if b then [] else ns)
-inside_unless size true ns h = tt
-inside_unless size false ns h = h
-
-pub closed : (i : Image) (states : List (Option State)) → IsTyping i (at states) → IsClosed (length states) (leads i (at states))
-closed i states y n = by (at states n) refl
-  where
-    ruled : (r : Result (List Lead) Cause) → Holds (at states) r → AllInside (length states) (targets_of r)
-    ruled (Err c) k = absurd k
-    ruled (Ok es) k = inside_all states es k
-
-    by : (o : Option State) → at states n ≡ o → AllInside (length states) (leads_by i n o)
-    by None e = tt
-    by (Some s) e = inside_unless (length states) (is_pause (call_at i n)) (targets_of (rule i n s)) (ruled (rule i n s) (y.holds n s e))
-
-pub same_places : (i : Image) (states : List (Option State)) (targets : List Targets) → AreTargets i states targets → places_at targets ≡ leads i (at states)
-same_places i states targets a = λ j. λ n. a.same n j
-
-pub closed_targets : (i : Image) (states : List (Option State)) (targets : List Targets) → AreTargets i states targets → IsTyping i (at states)
-    → IsClosed (length targets) (places_at targets)
-closed_targets i states targets a y =
-    subst (λ (f : ℕ → List ℕ). IsClosed (length targets) f) (sym (same_places i states targets a))
-    (subst (λ (n : ℕ). IsClosed n (leads i (at states))) (sym a.long) (closed i states y))

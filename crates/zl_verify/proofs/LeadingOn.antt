@@ -97,6 +97,7 @@ local_on bounds i (local.JumpBelow a imm target) s = below_on s a imm
 local_on bounds i (local.JumpNotBelow a imm target) s = unless_ways _ (below_on s a imm)
 local_on bounds i (local.JumpHas a imm target) s = has_on s imm (value_at s a)
 local_on bounds i (local.JumpHasNot a imm target) s = unless_ways _ (has_on s imm (value_at s a))
+local_on bounds i (local.EndRep rep) s = or_right _ true refl
 local_on bounds i x s = passes_on HasWay (λ t. refl) bounds i x s refl
 
 answered_on : (i : Image) (s : State) (on : Bool) (u : Uses) → on ≡ true → IfOk (call_rule_by i s on u) HasWay

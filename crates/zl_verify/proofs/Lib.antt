@@ -2,7 +2,11 @@ pub mod Common
 pub mod Waking
 pub mod CallEnds
 pub mod Places
+pub mod Walking
+pub mod Blocked
 pub mod Numbering
+pub mod Falling
+pub mod Peaking
 pub mod Rising
 pub mod Searching
 pub mod Lowers
@@ -16,6 +20,7 @@ pub mod Leading
 pub mod Bounding
 pub mod PassingOn
 pub mod LookingAhead
+pub mod Suiting
 pub mod Raising
 pub mod Owners
 pub mod Writing
@@ -26,9 +31,11 @@ pub mod Refining
 pub mod Memories
 pub mod Agreeing
 pub mod CallSites
+pub mod Blocks
 pub mod LocalSteps
 pub mod LeadingOn
 pub mod Counting
+mod Upgrading
 pub mod Tagging
 pub mod Consuming
 pub mod Examining
@@ -66,5 +73,6 @@ pub mod Covering
 pub mod Headline
 mod NoLeak
 pub mod CoveredRuns
+mod RowsBlocks
 mod RowsConforms
 mod RowsNoLeak

@@ -1,11 +1,13 @@
 -- The law of the local steps of a process that conforms.
 use Rattle.zl_verify.proofs.Common.{Bool, CallInstr, CallName, Cause, Condition, Conforms, Cpu, Edge, Entry, Err, HandlesAreSound, Holds, Image, Instr, IsAble}
 use Rattle.zl_verify.proofs.Common.{IsAbove, IsMemory, IsStuck, IsTrue, IsTyping, KNOWN_RIGHTS, Kind, List, LocalInstr, Moves, Next, None, Ok, OneOf, Option}
-use Rattle.zl_verify.proofs.Common.{Process, Ready, Result, RuleHolds, Site, Some, StandsBy, State, Table, WaitsAt, World, [], and_then, ap, bits}
-use Rattle.zl_verify.proofs.Common.{bounds_of, call_at, call_rule, calls_at, creates, default_rights_of, edge_to, edges, false, get, if◌then◌else◌, inl, inr}
-use Rattle.zl_verify.proofs.Common.{instr_at, is_among, is_in_range, is_local_in_range, is_some, leads, length, local_effect, local_rule, moves, nat_lt}
+use Rattle.zl_verify.proofs.Common.{Process, Ready, Result, RuleHolds, Site, Some, StandsBy, State, Table, WaitsAt, World, [], and_then, ap, bits, bounds_of}
+use Rattle.zl_verify.proofs.Common.{call_at, call_rule, calls_at, creates, default_rights_of, edge_to, edges, false, get, if◌then◌else◌, inl, inr, instr_at}
+use Rattle.zl_verify.proofs.Common.{is_among, is_in_range, is_local_in_range, is_some, leads, leads_on, length, local_effect, local_rule, moves, nat_lt}
 use Rattle.zl_verify.proofs.Common.{next_at, next_of, on_process, ranges, refl, rule_by, rule_with, site_of, subst, sym, target_of, targets_of, true, within}
 use Rattle.zl_verify.proofs.Common.{within_trans, ℕ, ◌++◌, ◌+◌, ◌∙◌, ◌∷◌, ◌≡◌, ◌≢◌, ◌⊎◌}
+use Rattle.zl_verify.proofs.Common.{both, local_parts}
+use Rattle.zl_code.specs.Instructions.{is_known}
 use Rattle.zl_abs.specs.Outcome.{Outcome}
 use Rattle.zl_verify.specs.LocalLaws.{GoesOn}
 use Rattle.zl_rights.specs.declared.kind.Kind.TheVariants as kind
@@ -16,6 +18,8 @@ use Rattle.zl_verify.proofs.Refining.{Known}
 use Rattle.zl_verify.proofs.Agreeing.{Arrives, agrees}
 use Rattle.zl_verify.proofs.CallSites.{IsGiven, memory_there}
 use Rattle.zl_verify.proofs.Sites.{has_site}
+use Rattle.zl_verify.proofs.Blocks.{can_turn, follows_along}
+use Rattle.zl_verify.proofs.Suiting.{counted_there, typed_leads}
 use Rattle.zl_abs.proofs.FineRules.{in_range_at}
 
 -- ---- facts of an image and of a world
@@ -105,31 +109,47 @@ module _ (i : Image) (t : ℕ → Option State) (range : IsTrue (is_in_range i))
   holds_at o is = rw is at (typing.holds c0.counter k.state k.stands)
 
   local_range : (x : LocalInstr) → instr_at i c0.counter ≡ Some (instr.Local x) → is_local_in_range x ≡ true
-  local_range x is = rw is at (in_range_at i.raw i.code c0.counter (ranges i range).code)
+  local_range x is =
+      (both (is_known i.version (local_parts x).opcode) (is_local_in_range x)
+      (rw is at (in_range_at i.version i.raw i.code c0.counter (ranges i range).code))).1
 
   arrives : (x : LocalInstr) → instr_at i c0.counter ≡ Some (instr.Local x)
       → Arrives f i c0.counter (target_of x) (local_rule (bounds_of i.code) i x k.state) (local_effect x c0)
   arrives x is = agrees c0 k.holds (typing.state c0.counter k.state k.stands) k.memory known (bounds_of i.code) x (local_range x is)
+      (can_turn i range c0 k.counters x is)
 
   leads_here : (x : LocalInstr) → instr_at i c0.counter ≡ Some (instr.Local x)
       → targets_of (and_then (local_rule (bounds_of i.code) i x k.state) (edges (length i.code) c0.counter (target_of x))) ≡ leads i t c0.counter
   unfolding rule_with
   leads_here x is = rw (k.stands, is) refl
 
-  stepped : (x : LocalInstr) → instr_at i c0.counter ≡ Some (instr.Local x) → (c : Cpu) → local_effect x c0 ≡ Some c
-      → OneOf (λ n. c.counter ≡ n) (leads i t c0.counter) × StandsBy i t f c
+  -- the Cpu stands at the end of a followed edge, as the typing says there
+  abbrev GoesTo : Cpu → Type 0
+  GoesTo c = OneOf (λ s. (c.counter, c.counters) ≡ s) (leads_on i t (c0.counter, c0.counters)) × StandsBy i t f c
+
+  stepped : (x : LocalInstr) → instr_at i c0.counter ≡ Some (instr.Local x) → (c : Cpu) → local_effect x c0 ≡ Some c → GoesTo c
   stepped x is c effect =
       let r = reached t f i c (length i.code) c0.counter (target_of x) (local_rule (bounds_of i.code) i x k.state) (holds_at (Some (instr.Local x)) is)
       (rw effect at (arrives x is)) in
-      (subst (OneOf (λ n. c.counter ≡ n)) (leads_here x is) r.1.follows, record { state = r.1.state; stands = r.1.stands; holds = r.1.holds; memory = r.0 })
+      let so = typed_leads i range c0.counter (t c0.counter) in
+      let follows = follows_along i range c0 k.counters c x is effect (leads i t c0.counter) so
+      (subst (OneOf (λ n. c.counter ≡ n)) (leads_here x is) r.1.follows) in (
+        follows,
+        record {
+          state = r.1.state;
+          stands = r.1.stands;
+          holds = r.1.holds;
+          memory = r.0;
+          counters = counted_there i range c0.counter c0.counters (leads i t c0.counter) (c.counter, c.counters) so k.counters follows;
+        },
+      )
 
   -- a local instruction leads along a followed edge
-  pub moves_on : (c : Cpu) → next_at i c0 ≡ Moves c → OneOf (λ n. c.counter ≡ n) (leads i t c0.counter) × StandsBy i t f c
+  pub moves_on : (c : Cpu) → next_at i c0 ≡ Moves c → GoesTo c
   unfolding next_at
   moves_on c = by (instr_at i c0.counter) refl
     where
-      one : (x : LocalInstr) → instr_at i c0.counter ≡ Some (instr.Local x) → (o : Option Cpu) → local_effect x c0 ≡ o → moves o ≡ Moves c
-          → OneOf (λ n. c.counter ≡ n) (leads i t c0.counter) × StandsBy i t f c
+      one : (x : LocalInstr) → instr_at i c0.counter ≡ Some (instr.Local x) → (o : Option Cpu) → local_effect x c0 ≡ o → moves o ≡ Moves c → GoesTo c
       one x is None effect e = cc
       one x is (Some d) effect e = stepped x is c (effect ∙ ap Some (ap (moved_to d) e))
 
@@ -137,7 +157,7 @@ module _ (i : Image) (t : ℕ → Option State) (range : IsTrue (is_in_range i))
       no_move call None e = cc
       no_move call (Some s) e = cc
 
-      by : (o : Option Instr) → instr_at i c0.counter ≡ o → next_of o c0 ≡ Moves c → OneOf (λ n. c.counter ≡ n) (leads i t c0.counter) × StandsBy i t f c
+      by : (o : Option Instr) → instr_at i c0.counter ≡ o → next_of o c0 ≡ Moves c → GoesTo c
       by (Some (instr.Local x)) is e = one x is (local_effect x c0) refl e
       by (Some (instr.Call x)) is e = absurd (no_move x.name (site_of x c0) e)
       by _ is e = cc
@@ -183,7 +203,7 @@ module _ (i : Image) (t : ℕ → Option State) (w : World) (p : ℕ) (q : Proce
   known v e is = within_trans KNOWN_RIGHTS (default_rights_of e.kind) (bits e.rights) (defaults_known e.kind) (sound.rights p v q e is_there is)
 
   stands_by : StandsBy i t (get q.handles) q.cpu
-  stands_by = record { state = k.state; stands = k.stands; holds = k.holds; memory = k.memory }
+  stands_by = record { state = k.state; stands = k.stands; holds = k.holds; memory = k.memory; counters = k.counters }
 
   -- its Cpu by itself is so too
   pub able_of : IsAble i q.cpu
@@ -202,7 +222,15 @@ module _ (i : Image) (t : ℕ → Option State) (w : World) (p : ℕ) (q : Proce
       let (follows, s) = moves_on i t range typing (get q.handles) known q.cpu stands_by c next in
       record {
         follows = follows;
-        conforms = record { state = s.state; stands = s.stands; holds = s.holds; memory = s.memory; allowed = still_allowed c; waits = waits_nowhere c ready };
+        conforms = record {
+          state = s.state;
+          stands = s.stands;
+          holds = s.holds;
+          memory = s.memory;
+          counters = s.counters;
+          allowed = still_allowed c;
+          waits = waits_nowhere c ready;
+        };
       }
 
   pub not_stuck : next_at i q.cpu ≢ IsStuck

@@ -4,12 +4,32 @@ use Rattle.zl_verify.proofs.Common.{length, length-replicate, length-set, none-s
 use Rattle.zl_verify.proofs.Common.{zero, ℕ, ◌++◌, ◌+◌, ◌<◌, ◌∙◌, ◌∷◌, ◌≡◌, ◌≢◌, ◌≤◌, ◌⊎◌, []}
 use Rattle.zl_abs.specs.Targets.{jump_of}
 use Rattle.zl_verify.specs.Lists.{within}
-use Rattle.zl_verify.proofs.Places.{get_put, get_put_other, equal_or_not}
+use Rattle.zl_verify.proofs.Places.{get_put, get_put_other, equal_or_not, there}
 
 pub same_past : {X : Type 0} (xs : List X) (n : ℕ) (v : X) → length xs ≤ n → xs ≡ slice_set xs n v
 same_past [] n v h = refl
 same_past (x ∷ xs) zero v h = absurd (omega arith)
 same_past (x ∷ xs) (suc n) v h = ap (λ ys. x ∷ ys) (same_past xs n v (omega arith))
+
+-- ---- marks
+
+still_on : (begins : List Bool) (k n : ℕ) → slice_get begins n ≡ Some true → slice_get (slice_set begins k true) n ≡ Some true
+still_on begins k n on = elim (equal_or_not k n) [
+  | inl e ↦ subst (λ (m : ℕ). slice_get (slice_set begins m true) n ≡ Some true) (sym e) (get_put begins n true (there begins n true on))
+  | inr d ↦ get_put_other begins k n true d ∙ on
+]
+
+-- where one more instruction may jump is marked
+pub marks_more : (i : Image) (begins : List Bool) (p : ℕ) → AreMarked i begins p → AreMarked i (slice_set begins (jump_of i p) true) (p + 1)
+marks_more i begins p a = record {
+  long = length-set begins (jump_of i p) true ∙ a.long;
+  first = still_on begins (jump_of i p) 0 a.first;
+  jumps = λ n h l. elim (equal_or_not p n) [
+    | inl e ↦ subst (λ (m : ℕ). slice_get (slice_set begins (jump_of i m) true) (jump_of i n) ≡ Some true) (sym e)
+        (get_put begins (jump_of i n) true (omega (arith, a.long)))
+    | inr d ↦ still_on begins (jump_of i p) (jump_of i n) (a.jumps n (omega arith) l)
+  ];
+}
 
 -- ---- numbers
 

@@ -1,206 +1,218 @@
--- Numbers given backwards: what they say of the steps that can be made, and what one more number leaves.
-use Rattle.zl_verify.proofs.Common.{AllBelow, AllInside, AreNumbers, Bool, Follow, IsBelow, IsClosed, List, None, OneOf, Option, Some, Targets, [], ap, arith}
-use Rattle.zl_verify.proofs.Common.{at, false, get_or, if◌then◌else◌, inl, inr, is_some, leb, length, length-set, min, nat_tests, option_map, places, places_at}
-use Rattle.zl_verify.proofs.Common.{places_by, refl, same_Some, slice_get-get_or, slice_set, subst, suc, sum_by-set, sym, true, unnumbered, zero, ℕ, ◌+◌, ◌-◌}
-use Rattle.zl_verify.proofs.Common.{◌<◌, ◌∙◌, ◌∷◌, ◌≡◌, ◌≢◌, ◌≤◌, ◌⊎◌}
+-- Pairs given backwards: what one more leaves, and what is said by those that are missing.
+use Rattle.zl_verify.proofs.Common.{Bool, IfSome, IsNested, List, Mark, None, Option, Some, Targets, ap, arith, at, false, get_or, inl, inr}
+use Rattle.zl_verify.proofs.Common.{is_some, length, length-replicate, length-set, min, places_by, refl, replicate, slice_get, slice_get-get_or}
+use Rattle.zl_verify.proofs.Common.{slice_set, subst, suc, sum_by-set, sym, true, zero, ℕ, ◌+◌, ◌-◌, ◌<◌, ◌∙◌, ◌∷◌, ◌≡◌, ◌≤◌, ◌⊎◌}
+use Rattle.zl_code.specs.declared.blocks.Mark.TheVariants as mark
+use Rattle.std.proofs.lemmas.List.{get_or-replicate}
+use Rattle.std.proofs.lemmas.Option.{IfSome_then}
+use Rattle.zl_code.specs.Blocks.{imm_of}
+use Rattle.zl_verify.specs.declared.steps.Longest.{Longest}
 use Rattle.zl_verify.specs.Lists.{within}
-use Rattle.zl_verify.specs.Numbers.{larger, one_more, above_all, number_of, Given, IsStuckFrom, one_if, one_if_none}
-use Rattle.zl_verify.proofs.Places.{get_put, get_put_other, equal_or_not}
+use Rattle.zl_verify.specs.Nested.{Suits}
+use Rattle.zl_verify.specs.Longest.{AreLongest, FollowBehind, Given, IsKept, IsPairOf, IsStuckFrom, best_of, further, longest_by, longest_from, longest_of}
+use Rattle.zl_verify.specs.Longest.{missing, one_if, one_if_none, or_leaf, pair_at, plain, reach, through, through_by, turned, way_by, way_to}
+use Rattle.zl_verify.specs.Peaks.{turns_left}
+use Rattle.zl_verify.proofs.Places.{below_or_not, get_past, nowhere, set_by, there}
+use Rattle.zl_verify.proofs.Walking.{Block, Counted, Goes, IsEdge, Real, block_at, end_at, go_through, less, plain_edges, reach_turned, real_best, real_cut}
+use Rattle.zl_verify.proofs.Walking.{real_end, real_flat, real_further, real_leaf, rep_step, short_turned, some_turns}
 
--- ---- the number above those of some places
+kept_same : (o : Option Longest) → IsKept o o
+kept_same None = tt
+kept_same (Some w) = refl
 
-weaker : (f : ℕ → Option ℕ) (j k : ℕ) (ns : List ℕ) → j ≤ k → AllBelow f j ns → AllBelow f k ns
-weaker f j k [] h b = tt
-weaker f j k (n ∷ ns) h b = (one (f n) (b.0), weaker f j k ns h (b.1))
-  where
-    one : (o : Option ℕ) → IsBelow o j → IsBelow o k
-    one None b = b
-    one (Some i) b = omega arith
+kept_on : (o p q : Option Longest) → IsKept o p → IsKept p q → IsKept o q
+kept_on None p q h k = tt
+kept_on (Some w) p q h k = rw h at k
 
-above_below : (f : ℕ → Option ℕ) (ns : List ℕ) (k : ℕ) → above_all f ns ≡ Some k → AllBelow f k ns
-above_below f [] k e = tt
-above_below f (n ∷ ns) k e = by (λ j h. above_below f ns j h) (f n) (above_all f ns) refl refl e
-  where
-    most : (i j k : ℕ) → (if leb (i + 1) j then j else i + 1) ≡ k → i < k
-    most i j k h = grind (arith, nat_tests)
+module _ (marks : List Mark) (targets : List Targets) (most : ℕ) where
+  -- what holds before place p was looked at, in a pass over these pairs
+  pub record Passing (old pairs : List (Option Longest)) (p : ℕ) (changed : Bool) : Type 0 where
+    pub given : Given marks targets most pairs
+    pub long : length pairs ≡ length marks
+    pub stuck : changed ≡ false → IsStuckFrom marks targets most pairs p
+    pub fewer : missing pairs + one_if changed ≤ missing old
 
-    rest : (i j k : ℕ) → (if leb (i + 1) j then j else i + 1) ≡ k → j ≤ k
-    rest i j k h = grind (arith, nat_tests)
+  -- what holds between passes
+  pub record Going (pairs : List (Option Longest)) (changed : Bool) : Type 0 where
+    pub given : Given marks targets most pairs
+    pub long : length pairs ≡ length marks
+    pub stuck : changed ≡ false → IsStuckFrom marks targets most pairs 0
 
-    by : ((j : ℕ) → above_all f ns ≡ Some j → AllBelow f j ns) → (o p : Option ℕ) → f n ≡ o → above_all f ns ≡ p → larger (one_more o) p ≡ Some k
-        → IsBelow (f n) k × AllBelow f k ns
-    by more None p q r e = cc
-    by more (Some i) None q r e = cc
-    by more (Some i) (Some j) q r e =
-        let h : (if leb (i + 1) j then j else i + 1) ≡ k = same_Some _ k e in
-        (rw q (most i j k h), weaker f j k ns (rest i j k h) (more j r))
+module _ (marks : List Mark) (targets : List Targets) (most : ℕ) (nested : IsNested marks targets) where
+  -- ---- what new pairs say
 
--- a place has the number below it
-above_one : (f : ℕ → Option ℕ) (ns : List ℕ) (k : ℕ) → above_all f ns ≡ Some (suc k) → OneOf (λ m. f m ≡ Some k) ns
-above_one f [] k e = let h : 0 ≡ suc k = same_Some 0 (suc k) e in absurd (omega arith)
-above_one f (n ∷ ns) k e = by (λ h. above_one f ns k h) (f n) (above_all f ns) refl refl e
-  where
-    either : (i j : ℕ) → (if leb (i + 1) j then j else i + 1) ≡ suc k → (i ≡ k) ⊎ (j ≡ suc k)
-    either i j h = grind (arith, nat_tests)
+  -- the pair is real; or where there is none so many steps can be made
+  abbrev Says : ℕ → ℕ → Option Longest → Type 0
+  Says k n None = (cs : List ℕ) → Counted marks targets n cs → Goes marks targets k (n, cs)
+  Says k n (Some w) = Real marks targets n w
 
-    by : (above_all f ns ≡ Some (suc k) → OneOf (λ m. f m ≡ Some k) ns) → (o p : Option ℕ) → f n ≡ o → above_all f ns ≡ p → larger (one_more o) p ≡ Some (suc k)
-        → (f n ≡ Some k) ⊎ OneOf (λ m. f m ≡ Some k) ns
-    by more None p q r e = cc
-    by more (Some i) None q r e = cc
-    by more (Some i) (Some j) q r e = elim (either i j (same_Some _ (suc k) e)) [ inl h ↦ inl (q ∙ ap Some h) | inr h ↦ inr (more (r ∙ ap Some h)) ]
+  module _ (k : ℕ) (f : ℕ → Option Longest) (says : (m : ℕ) → Says k m (f m)) where
+    way_says : (n : ℕ) (o : Option ℕ) → IfSome o (IsEdge marks targets n) → Says (suc k) n (way_to most f o)
+    way_says n None edge = real_leaf marks targets n
+    way_says n (Some m) edge = by (f m) (says m)
+      where
+        by : (o : Option Longest) → Says k m o → Says (suc k) n (way_by most o)
+        by None h = λ cs c. edge.1 k cs (h cs (rw (edge.0) c))
+        by (Some u) h = real_cut marks targets most n (further u) (real_further marks targets n m u edge h)
 
-above_none : (f : ℕ → Option ℕ) (ns : List ℕ) → above_all f ns ≡ None → OneOf (λ m. f m ≡ None) ns
-above_none f [] e = cc
-above_none f (n ∷ ns) e = by (λ h. above_none f ns h) (f n) (above_all f ns) refl refl e
-  where
-    by : (above_all f ns ≡ None → OneOf (λ m. f m ≡ None) ns) → (o p : Option ℕ) → f n ≡ o → above_all f ns ≡ p → larger (one_more o) p ≡ None
-        → (f n ≡ None) ⊎ OneOf (λ m. f m ≡ None) ns
-    by more None p q r e = inl q
-    by more (Some i) None q r e = inr (more r)
-    by more (Some i) (Some j) q r e = cc
+    plain_says : (n : ℕ) (x : Targets) → IfSome x.jump (IsEdge marks targets n) × IfSome x.next (IsEdge marks targets n) → Says (suc k) n (plain most f x)
+    plain_says n x edges = by (way_to most f x.jump) (way_to most f x.next) (way_says n x.jump (edges.0)) (way_says n x.next (edges.1))
+      where
+        by : (o p : Option Longest) → Says (suc k) n o → Says (suc k) n p → Says (suc k) n (best_of o p)
+        by None p a b = a
+        by (Some v) None a b = b
+        by (Some v) (Some u) a b = real_best marks targets n v u a b
 
--- ---- steps one after another
+    through_says : (r imm e : ℕ) (x : Targets) → slice_get marks r ≡ Some (mark.Rep imm e) → slice_get targets r ≡ Some x → x.jump ≡ None
+        → x.next ≡ Some (r + 1) → Says (suc k) r (through most imm (f (r + 1)) (f (e + 1)))
+    through_says r zero e x q t j n = absurd (let l = (nested.block r 0 e q).counted in omega arith)
+    through_says r (suc i) e x q t j n = by (f (r + 1)) (says (r + 1))
+      where
+        b : Block marks targets r (suc i) e
+        b = block_at marks targets nested r (suc i) e q
 
-one_too : (P Q : ℕ → Type 0) → ((m : ℕ) → P m → Q m) → (ns : List ℕ) → OneOf P ns → OneOf Q ns
-one_too P Q f [] h = h
-one_too P Q f (n ∷ ns) h = elim h [ inl p ↦ inl (f n p) | inr r ↦ inr (one_too P Q f ns r) ]
+        after : (u : Longest) → Real marks targets (r + 1) u → (s : ℕ) → u.to_end ≡ Some s → (o : Option Longest) → Says k (e + 1) o
+            → Says (suc k) r (through_by most (suc i) u.within (Some s) o)
+        after u h s z None g = λ cs c. less marks targets (suc k) (suc (turns_left u (suc i) k)) (r, cs) (rw (some_turns u s i k z) (omega arith))
+            (go_through marks targets r (suc i) e b u h x t j n cs c k (g cs (rw b.behind c)))
+        after u h s z (Some a) g = real_cut marks targets most r (turned (suc i) u.within s a) (record {
+          goes = λ cs c o p. rw (reach_turned u a i s o z) (go_through marks targets r (suc i) e b u h x t j n cs c (reach a o)
+              (g.goes cs (rw b.behind c) o (subst (λ (rs : List ℕ). FollowBehind marks targets rs cs o) (sym b.behind) p)));
+          short = short_turned (suc i) s u.within a g.short;
+        })
 
-pub fewer : (leads : ℕ → List ℕ) (k j n : ℕ) → k ≤ j → Follow leads j n → Follow leads k n
-fewer leads zero j n h f = tt
-fewer leads (suc k) zero n h f = absurd (omega arith)
-fewer leads (suc k) (suc j) n h f = one_too (λ m. Follow leads j m) (λ m. Follow leads k m) (λ m g. fewer leads k j m (omega arith) g) (leads n) f
+        first : (u : Longest) → Real marks targets (r + 1) u → (s : Option ℕ) → u.to_end ≡ s → Says (suc k) r (through_by most (suc i) u.within s (f (e + 1)))
+        first u h None z = real_flat marks targets r (min (u.within + 1) most) (λ cs c.
+            less marks targets (min (u.within + 1) most) (suc u.within) (r, cs) (omega arith)
+            (rep_step marks targets r (suc i) e x q t j n u.within cs (h.goes (suc i ∷ cs) (rw b.first (omega arith, omega (arith, b.imm_is), c)) None tt)))
+        first u h (Some s) z = after u h s z (f (e + 1)) (says (e + 1))
 
-one_inside : (P Q : ℕ → Type 0) (size : ℕ) → ((m : ℕ) → m < size → P m → Q m) → (ns : List ℕ) → AllInside size ns → OneOf P ns → OneOf Q ns
-one_inside P Q size f [] i h = h
-one_inside P Q size f (n ∷ ns) i h = elim h [ inl p ↦ inl (f n (i.0) p) | inr r ↦ inr (one_inside P Q size f ns (i.1) r) ]
+        by : (o : Option Longest) → Says k (r + 1) o → Says (suc k) r (through most (suc i) o (f (e + 1)))
+        by None h = λ cs c. rep_step marks targets r (suc i) e x q t j n k cs (h (suc i ∷ cs) (rw b.first (omega arith, omega (arith, b.imm_is), c)))
+        by (Some u) h = first u h u.to_end refl
 
--- from a place without a number so many steps can be made, where the numbers leave no more to be given
-pub endless : (leads : ℕ → List ℕ) (size : ℕ) (ns : List (Option ℕ)) (most : ℕ) → IsClosed size leads
-    → ((n : ℕ) → n < size → at ns n ≡ None → number_of ns most (leads n) ≡ None) → (k n : ℕ) → n < size → at ns n ≡ None → Follow leads k n
-endless leads size ns most closed stuck zero n h e = tt
-endless leads size ns most closed stuck (suc k) n h e =
-    one_inside (λ m. at ns m ≡ None) (λ m. Follow leads k m) size (λ m i z. endless leads size ns most closed stuck k m i z) (leads n) (closed n)
-    (above_none (at ns) (leads n) (uncapped (above_all (at ns) (leads n)) (stuck n h e)))
-  where
-    uncapped : (o : Option ℕ) → option_map (λ k. min k most) o ≡ None → o ≡ None
-    uncapped None q = refl
-    uncapped (Some i) q = cc
+    says_from : (n : ℕ) (q : Option Mark) (t : Option Targets) → slice_get marks n ≡ q → slice_get targets n ≡ t → Suits marks q n t → n < length marks
+        → Says (suc k) n (longest_from most q t f n)
+    says_from n None t q s u l = absurd (nowhere marks n q l)
+    says_from n (Some m) None q s u l = absurd (nowhere targets n s (omega (arith, nested.long)))
+    says_from n (Some mark.Plain) (Some x) q s u l = plain_says n x (plain_edges marks targets n x.jump x.next q (ap places_by s) u)
+    says_from n (Some (mark.Rep imm c)) (Some x) q s u l = elim u.1 [
+      | inl h ↦ rw h (real_leaf marks targets n)
+      | inr h ↦ rw h (through_says n imm c x q s (u.0) h)
+    ]
+    says_from n (Some (mark.EndRep r)) (Some x) q s u l = elim u [
+      | inl h ↦ rw h.1 (real_leaf marks targets n)
+      | inr h ↦ rw h.0 (real_end marks targets n r (imm_of marks r) x (end_at marks targets nested n r q) s h)
+    ]
 
--- ---- one number more
+    pub says_more : (n : ℕ) → n < length marks → Says (suc k) n (longest_of marks targets most f n)
+    says_more n l = says_from n (slice_get marks n) (slice_get targets n) refl refl (nested.suits n) l
 
-module _ (leads : ℕ → List ℕ) (most : ℕ) where
-  -- what holds of a number that is given
-  record Fits (ns : List (Option ℕ)) (n k : ℕ) : Type 0 where
-    falls : k < most → AllBelow (at ns) k (leads n)
-    follow : Follow leads k n
+  -- ---- one more
 
-  fits : (ns : List (Option ℕ)) → Given leads most ns → (n k : ℕ) → number_of ns most (leads n) ≡ Some k → Fits ns n k
-  fits ns g n k e = by (above_all (at ns) (leads n)) refl e
+  says_given : (k n : ℕ) (o : Option Longest) → IfSome o (Real marks targets n) → (o ≡ None → Says k n None) → Says k n o
+  says_given k n None h none = none refl
+  says_given k n (Some w) h none = h
+
+  numbered : (pairs : List (Option Longest)) → Given marks targets most pairs → (n : ℕ) (w : Longest) → n < length pairs → n < length marks
+      → pair_at pairs n ≡ None → longest_of marks targets most (pair_at pairs) n ≡ Some w → Given marks targets most (slice_set pairs n (Some w))
+  numbered pairs g n w h l z e = record {
+    same = set_by pairs n (Some w) or_leaf (λ m o. m < length new → IfSome o (IsPairOf marks targets most (pair_at new) m)) h
+        (λ i. record { before = pair_at pairs; kept = more; same = e })
+        (λ m d i. IfSome_then (pair_at pairs m) (g.same m (omega (arith, length-set pairs n (Some w))))
+        (λ u s. record { before = s.before; kept = λ y. kept_on (s.before y) (pair_at pairs y) (pair_at new y) (s.kept y) (more y); same = s.same }));
+    real = set_by pairs n (Some w) or_leaf (λ m o. IfSome o (Real marks targets m)) h
+        (rw e at (says_more zero (pair_at pairs) (λ y. says_given zero y (pair_at pairs y) (g.real y) (λ q cs c. tt)) n l)) (λ m d. g.real m);
+  }
     where
-      steps : (j : ℕ) → above_all (at ns) (leads n) ≡ Some j → Follow leads j n
-      steps zero q = tt
-      steps (suc j) q = one_too (λ m. at ns m ≡ Some j) (λ m. Follow leads j m) (λ m p. g.follow m j p) (leads n) (above_one (at ns) (leads n) j q)
+      new : List (Option Longest)
+      new = slice_set pairs n (Some w)
 
-      by : (o : Option ℕ) → above_all (at ns) (leads n) ≡ o → option_map (λ j. min j most) o ≡ Some k → Fits ns n k
-      by None q r = cc
-      by (Some j) q r =
-          let h : min j most ≡ k = same_Some (min j most) k r in
-          record {
-            falls = λ b. (let i : j ≡ k = omega arith in above_below (at ns) (leads n) k (q ∙ ap Some i));
-            follow = fewer leads k j n (omega arith) (steps j q);
-          }
+      more : (m : ℕ) → IsKept (pair_at pairs m) (pair_at new m)
+      more = set_by pairs n (Some w) or_leaf (λ y o. IsKept (pair_at pairs y) o) h (rw z tt) (λ y d. kept_same (pair_at pairs y))
 
-  pub numbered : (ns : List (Option ℕ)) → Given leads most ns → (n k : ℕ) → n < length ns → at ns n ≡ None → number_of ns most (leads n) ≡ Some k
-      → Given leads most (slice_set ns n (Some k))
-  numbered ns g n k h z e = record { falls = λ m j a b. falls m j a b (equal_or_not n m); follow = λ m j a. follow m j a (equal_or_not n m) }
+  of_place : (n : ℕ) (x : Targets) (f : ℕ → Option Longest) → n < length marks
+      → longest_of marks targets most f n ≡ longest_by most (slice_get marks n) (get_or targets n x) f n
+  of_place n x f h = rw (slice_get-get_or targets n x (omega (arith, nested.long))) refl
+
+  -- one place was given a pair
+  pub given_one : (old pairs : List (Option Longest)) (p : ℕ) (changed : Bool) → Passing marks targets most old pairs p changed → 0 < p → p ≤ length marks
+      → is_some (get_or pairs (p - 1) None) ≡ false → (x : Targets) (w : Longest)
+      → longest_by most (slice_get marks (p - 1)) (get_or targets (p - 1) x) (pair_at pairs) (p - 1) ≡ Some w
+      → Passing marks targets most old (slice_set pairs (p - 1) (Some w)) (p - 1) true
+  unfolding missing
+  given_one old pairs p changed g h l e x w q =
+      let i : p - 1 < length pairs = omega (arith, g.long) in
+      let z = none_there (get_or pairs (p - 1) None) e in
+      let s = sum_by-set one_if_none pairs (p - 1) (Some w) None i in
+      let o : one_if_none (get_or pairs (p - 1) None) ≡ 1 = ap one_if_none z in
+      record {
+        given = numbered pairs g.given (p - 1) w i (omega arith) (ap or_leaf (slice_get-get_or pairs (p - 1) None i) ∙ z)
+            (of_place (p - 1) x (pair_at pairs) (omega arith) ∙ q);
+        long = length-set pairs (p - 1) (Some w) ∙ g.long;
+        stuck = λ c. absurd (cc);
+        fewer = omega (arith, g.fewer);
+      }
     where
-      new : List (Option ℕ)
-      new = slice_set ns n (Some k)
+      none_there : (o : Option Longest) → is_some o ≡ false → o ≡ None
+      none_there None e = refl
+      none_there (Some w) e = cc
 
-      fit : Fits ns n k
-      fit = fits ns g n k e
+  -- the place before stays as it is, where it has a pair or can be given none
+  pub passed_one : (old pairs : List (Option Longest)) (p : ℕ) (changed : Bool) → Passing marks targets most old pairs p changed → 0 < p → p ≤ length marks
+      → (x : Targets) → (is_some (get_or pairs (p - 1) None) ≡ false
+      → longest_by most (slice_get marks (p - 1)) (get_or targets (p - 1) x) (pair_at pairs) (p - 1) ≡ None)
+      → Passing marks targets most old pairs (p - 1) changed
+  passed_one old pairs p changed g h l x q = record {
+    given = g.given;
+    long = g.long;
+    stuck = λ c n i j z. elim (below_or_not n p) [
+      | inl b ↦ (let a : p - 1 ≡ n = omega arith in subst (λ (y : ℕ). at pairs y ≡ None → longest_of marks targets most (pair_at pairs) y ≡ None) a
+          (λ z. of_place (p - 1) x (pair_at pairs) (omega arith) ∙ q
+          (ap is_some (sym (ap within (slice_get-get_or pairs (p - 1) None (omega (arith, g.long)))) ∙ z))) z)
+      | inr b ↦ g.stuck c n b j z
+    ];
+    fewer = g.fewer;
+  }
 
-      same : (m j : ℕ) → n ≡ m → at new m ≡ Some j → k ≡ j
-      same m j p a = same_Some k j (sym (ap within (get_put ns n (Some k) h)) ∙ subst (λ (y : ℕ). at new y ≡ Some j) (sym p) a)
+  -- ---- pass after pass
 
-      other : (m j : ℕ) → n ≢ m → at new m ≡ Some j → at ns m ≡ Some j
-      other m j d a = sym (ap within (get_put_other ns n m (Some k) d)) ∙ a
+  -- at first nothing is given
+  pub going_begins : (count : ℕ) (pairs : List (Option Longest)) → count ≡ length marks → pairs ≡ replicate count None → Going marks targets most pairs true
+  going_begins count pairs l e = record {
+    given = record { same = λ n h. rw (none n (omega (arith, long))) tt; real = λ n. real n (below_or_not n count) };
+    long = long ∙ l;
+    stuck = λ c. absurd (cc);
+  }
+    where
+      long : length pairs ≡ count
+      long = rw e (length-replicate count None)
 
-      kept : (m j : ℕ) → at ns m ≡ Some j → (n ≡ m) ⊎ (n ≢ m) → at new m ≡ Some j
-      kept m j a (inl p) = let r : at ns n ≡ Some j = rw p a in let s : None ≡ Some j = sym z ∙ r in cc
-      kept m j a (inr d) = ap within (get_put_other ns n m (Some k) d) ∙ a
+      none : (n : ℕ) → n < count → pair_at pairs n ≡ None
+      none n h = ap or_leaf (slice_get-get_or pairs n None (omega (arith, long))) ∙ rw e (get_or-replicate count n None None h)
 
-      below : (m j : ℕ) → (o : Option ℕ) → at ns m ≡ o → IsBelow o j → IsBelow (at new m) j
-      below m j None a b = absurd b
-      below m j (Some i) a b = rw (kept m i a (equal_or_not n m)) b
+      real : (n : ℕ) → (n < count) ⊎ (count ≤ n) → IfSome (pair_at pairs n) (Real marks targets n)
+      real n (inl h) = rw (none n h) tt
+      real n (inr h) = rw (get_past pairs n (omega (arith, long))) (real_leaf marks targets n)
 
-      still : (j : ℕ) (ms : List ℕ) → AllBelow (at ns) j ms → AllBelow (at new) j ms
-      still j [] b = tt
-      still j (m ∷ ms) b = (below m j (at ns m) refl (b.0), still j ms (b.1))
+  pub ends : (pairs : List (Option Longest)) → Going marks targets most pairs false → AreLongest marks targets most pairs
+  ends pairs g = record {
+    long = g.long;
+    given = g.given;
+    endless = λ n e k. subst (λ (o : Option Longest). Says k n o) e (all_say k n);
+  }
+    where
+      -- where no pair is, that is in the list
+      free : (n : ℕ) → pair_at pairs n ≡ None → (n < length pairs) × (at pairs n ≡ None)
+      free n = by (slice_get pairs n) refl
+        where
+          by : (o : Option (Option Longest)) → slice_get pairs n ≡ o → or_leaf o ≡ None → (n < length pairs) × (within o ≡ None)
+          by None q z = cc
+          by (Some o) q z = (there pairs n o q, z)
 
-      falls : (m j : ℕ) → at new m ≡ Some j → j < most → (n ≡ m) ⊎ (n ≢ m) → AllBelow (at new) j (leads m)
-      falls m j a b (inl p) =
-          let r : k ≡ j = same m j p a in
-          subst (λ (v : ℕ). AllBelow (at new) j (leads v)) p (subst (λ (v : ℕ). AllBelow (at new) v (leads n)) r (still k (leads n) (fit.falls (omega arith))))
-      falls m j a b (inr d) = still j (leads m) (g.falls m j (other m j d a) b)
-
-      follow : (m j : ℕ) → at new m ≡ Some j → (n ≡ m) ⊎ (n ≢ m) → Follow leads j m
-      follow m j a (inl p) = subst (λ (v : ℕ). Follow leads j v) p (subst (λ (v : ℕ). Follow leads v n) (same m j p a) fit.follow)
-      follow m j a (inr d) = g.follow m j (other m j d a)
-
-  -- ---- a pass over the places
-
-  -- what holds before place p was looked at, in a pass over these numbers
-  pub record Passing (old ns : List (Option ℕ)) (p : ℕ) (changed : Bool) : Type 0 where
-    pub given : Given leads most ns
-    pub long : length ns ≡ length old
-    pub stuck : changed ≡ false → IsStuckFrom leads most ns p
-    pub fewer : unnumbered ns + one_if changed ≤ unnumbered old
-
-free_at : (ns : List (Option ℕ)) (n : ℕ) → is_some (get_or ns n None) ≡ false → at ns n ≡ None
-free_at [] n e = refl
-free_at (None ∷ ns) zero e = refl
-free_at (Some k ∷ ns) zero e = cc
-free_at (o ∷ ns) (suc n) e = free_at ns n e
-
-targets_at : (targets : List Targets) (n : ℕ) (d : Targets) → n < length targets → places_at targets n ≡ places (get_or targets n d)
-targets_at targets n d h = ap places_by (slice_get-get_or targets n d h)
-
-free_there : (ns : List (Option ℕ)) (n : ℕ) → n < length ns → at ns n ≡ None → one_if_none (get_or ns n None) ≡ 1
-free_there [] n h e = absurd (omega arith)
-free_there (None ∷ ns) zero h e = refl
-free_there (Some k ∷ ns) zero h e = cc
-free_there (o ∷ ns) (suc n) h e = free_there ns n (omega arith) e
-
--- one place was given a number
-pub given_one : (targets : List Targets) (most : ℕ) (old ns : List (Option ℕ)) (p : ℕ) (changed : Bool) → Passing (places_at targets) most old ns p changed
-    → 0 < p → p ≤ length ns → p ≤ length targets
-    → is_some (get_or ns (p - 1) None) ≡ false → (d : Targets) (k : ℕ) → number_of ns most (places (get_or targets (p - 1) d)) ≡ Some k
-    → Passing (places_at targets) most old (slice_set ns (p - 1) (Some k)) (p - 1) true
-unfolding unnumbered
-given_one targets most old ns p changed g h l m e d k q =
-    let z : at ns (p - 1) ≡ None = free_at ns (p - 1) e in
-    let i : p - 1 < length ns = omega arith in
-    let s = sum_by-set one_if_none ns (p - 1) (Some k) None i in
-    let o = free_there ns (p - 1) i z in
-    record {
-      given = numbered (places_at targets) most ns g.given (p - 1) k i z (rw (targets_at targets (p - 1) d (omega arith)) q);
-      long = length-set ns (p - 1) (Some k) ∙ g.long;
-      stuck = λ c. absurd (cc);
-      fewer = omega (arith, g.fewer);
-    }
-
--- ---- pass after pass
-
-pub record Going (targets : List Targets) (most : ℕ) (ns : List (Option ℕ)) (changed : Bool) : Type 0 where
-  pub given : Given (places_at targets) most ns
-  pub long : length ns ≡ length targets
-  pub stuck : changed ≡ false → IsStuckFrom (places_at targets) most ns 0
-
-pub ends : (targets : List Targets) (most : ℕ) (ns : List (Option ℕ)) → IsClosed (length targets) (places_at targets) → Going targets most ns false
-    → AreNumbers (places_at targets) (length targets) most ns
-ends targets most ns closed g = record {
-  long = g.long;
-  given = g.given;
-  endless = λ n h e k. endless (places_at targets) (length targets) ns most closed (λ m i z. g.stuck refl m (omega arith) (omega (arith, g.long)) z) k n h e;
-}
+      all_say : (k n : ℕ) → Says k n (pair_at pairs n)
+      all_say zero n = says_given zero n (pair_at pairs n) (g.given.real n) (λ q cs c. tt)
+      all_say (suc k) n =
+          says_given (suc k) n (pair_at pairs n) (g.given.real n)
+          (λ z. (let i = free n z in subst (λ (o : Option Longest). Says (suc k) n o) (g.stuck refl n (omega arith) i.0 i.1)
+          (says_more k (pair_at pairs) (all_say k) n (omega (arith, g.long, i.0)))))

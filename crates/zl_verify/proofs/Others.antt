@@ -162,7 +162,15 @@ module _ (i : Image) (t : ℕ → Option State) (range : is_in_range i ≡ true)
       same_policy w b.step.acted q process sound there (lives_then process.state running) (left_by_step lib w p x w2 sound b.step).alike c ∙ k.allowed c named
 
   conforms_still : Conforms i t b.step.acted q process
-  conforms_still = record { state = k.state; stands = k.stands; holds = k.holds; memory = k.memory; allowed = still_allowed; waits = k.waits }
+  conforms_still = record {
+    state = k.state;
+    stands = k.stands;
+    holds = k.holds;
+    memory = k.memory;
+    counters = k.counters;
+    allowed = still_allowed;
+    waits = k.waits;
+  }
 
   no_child_runs : (l : Life) → runs l ≡ true → is_created l ≡ false
   no_child_runs Created e = cc

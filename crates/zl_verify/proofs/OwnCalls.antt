@@ -29,6 +29,7 @@ use Rattle.zl_verify.proofs.Refusing.{IsOver, refused_fits}
 use Rattle.zl_verify.proofs.Working.{own_chosen, works}
 use Rattle.zl_verify.proofs.OwnEffect.{IsDone, caller_after, AreAlike, alike_then, same_objects, alike_after, same_policy}
 use Rattle.zl_verify.proofs.Storing.{storing_same, still_whole}
+use Rattle.zl_verify.proofs.Blocks.{call_counted}
 
 -- ---- how a call can end
 
@@ -101,6 +102,7 @@ record IsCaller (i : Image) (q2 q : Process) : Type 0 where
   registers : q2.cpu.registers ≡ q.cpu.registers
   counter : q2.cpu.counter ≡ q.cpu.counter
   slots : q2.cpu.slots ≡ q.cpu.slots
+  counters : q2.cpu.counters ≡ q.cpu.counters
   state : q2.state ≡ q.state
   program : q2.program ≡ q.program
   memory : IsMemory i q2.cpu.memory
@@ -148,10 +150,12 @@ module _ (i : Image) (t : ℕ → Option State) (w : World) (p : ℕ) (q : Proce
         let known : Known (get q2.handles) c.registers i.slots c.slots ruled.ways.passed = rw (passes_on, same.slots) holds in
         let arrives : Arrives (get q2.handles) i q.cpu.counter 0 (Ok ruled.ways) (Some c) = (same.memory, inr (ap (λ n. n + 1) same.counter, known)) in
         let r = reached t (get q2.handles) i c (length i.code) q.cpu.counter 0 (Ok ruled.ways) ruled.holds arrives in
+        let follows = subst (OneOf (λ n. c.counter ≡ n)) leads_here r.1.follows in
         record {
           after = record q2 { cpu = c };
           there = changed_here w1 p (λ (x : Process). record x { cpu = cpu_answered s answer values x.cpu }) q2 there;
-          follows = subst (OneOf (λ n. c.counter ≡ n)) leads_here r.1.follows;
+          follows = follows;
+          counters = same.counters;
           ready = same.state ∙ k.ready;
           program = same.program;
           conforms = record {
@@ -159,6 +163,8 @@ module _ (i : Image) (t : ℕ → Option State) (w : World) (p : ℕ) (q : Proce
             stands = r.1.stands;
             holds = r.1.holds;
             memory = r.0;
+            counters = rw same.counters
+                (call_counted i k.range t q.cpu.counter c.counter q.cpu.counters ruled.at.call ruled.at.stands k.conforms.counters follows);
             allowed = still_allowed (replied w1 p s answer values)
                 (alike_then w w w1 (replied w1 p s answer values) alike (same_objects w w1 (replied w1 p s answer values) refl));
             waits = rw (same.state, k.ready) tt;
@@ -176,6 +182,7 @@ module _ (i : Image) (t : ℕ → Option State) (w : World) (p : ℕ) (q : Proce
           registers = ap (λ x. x.registers) same.cpu;
           counter = ap (λ x. x.counter) same.cpu;
           slots = ap (λ x. x.slots) same.cpu;
+          counters = ap (λ x. x.counters) same.cpu;
           state = same.state;
           program = same.program;
           memory = subst (λ x. IsMemory i x.memory) (sym same.cpu) k.conforms.memory;
@@ -213,6 +220,7 @@ module _ (i : Image) (t : ℕ → Option State) (w : World) (p : ℕ) (q : Proce
           registers = rest.registers ∙ ap (λ x. x.registers) same.cpu;
           counter = rest.counter ∙ ap (λ x. x.counter) same.cpu;
           slots = rest.slots ∙ ap (λ x. x.slots) same.cpu;
+          counters = rest.counters ∙ ap (λ x. x.counters) same.cpu;
           state = rest.state ∙ same.state;
           program = rest.program ∙ same.program;
           memory = still_whole i q (given vs) same.cpu k.conforms.memory lib w p k.sized ruled.at.call s ruled.at.site none;
@@ -258,6 +266,7 @@ module _ (i : Image) (t : ℕ → Option State) (w : World) (p : ℕ) (q : Proce
             stands = k.conforms.stands;
             holds = k.conforms.holds;
             memory = k.conforms.memory;
+            counters = k.conforms.counters;
             allowed = λ c named. still_allowed (waiting w p s.destinations (Some awaited))
                 (same_objects w w (waiting w p s.destinations (Some awaited)) (unchanged (Some awaited))) c named;
             waits = subst (WaitsAt (Blocked awaited s.destinations)) (sym (ap call_in ruled.at.stands))

@@ -3,15 +3,18 @@ use Rattle.zl_verify.proofs.Common.{Acts, AtCall, Awaited, Blocked, Bool, CallBy
 use Rattle.zl_verify.proofs.Common.{Image, IsAnswered, IsFineItem, IsFitStep, IsOwnEnd, IsSound, IsStuck, IsTyping, IsUnderWay, IsWaiting, Library, Life, List}
 use Rattle.zl_verify.proofs.Common.{MayEnd, Moves, Next, None, OneOf, Option, Outcome, PacketAt, Process, Ready, Refused, SignalOf, Site, Some, StandsAtCall}
 use Rattle.zl_verify.proofs.Common.{State, TraceItem, Values, WaitsAt, Wants, World, after_ok, ap, awaited_by, call_at, call_in, ended, ends_by, ends_caller}
-use Rattle.zl_verify.proofs.Common.{ends_of, eq-eqb, executed, exits, false, get, has_ended, if◌then◌else◌, inl, inr, is_in_range, is_pause, is_pause_name}
-use Rattle.zl_verify.proofs.Common.{kills, leads, leads_by, next_at, next_in, ok_outcome, on_process, outcome_of, pid_of, process_ended, refl, refusal, runs}
-use Rattle.zl_verify.proofs.Common.{same_Some, slice_get, stays, subst, sym, taken, taken_handles, true, waits_for, with_effect, ℕ, ℤ, ◌==◌, ◌∙◌, ◌≡◌, ◌⊎◌}
+use Rattle.zl_verify.proofs.Common.{ends_of, eq-eqb, executed, exits, false, get, has_ended, if◌then◌else◌, inl, inr, instr_at, is_in_range, is_pause}
+use Rattle.zl_verify.proofs.Common.{is_pause_name, kills, leads, leads_by, leads_on, next_at, next_in, ok_outcome, on_process, outcome_of, pid_of}
+use Rattle.zl_verify.proofs.Common.{process_ended, refl, refusal, runs, same_Some, slice_get, stays, subst, sym, taken, taken_handles, true, waits_for}
+use Rattle.zl_verify.proofs.Common.{with_effect, ℕ, ℤ, ◌==◌, ◌∙◌, ◌≡◌, ◌⊎◌}
 use Rattle.zl_verify.specs.WakeLaws.{wakes}
+use Rattle.zl_code.specs.declared.instr.Instr.TheVariants as instr
 use Rattle.zl_code.specs.declared.history.CallName.TheVariants as name
 use Rattle.zl_code.specs.declared.history.Outcome.TheVariants as outcome
 use Rattle.zl_code.specs.declared.history.TraceItem.TheVariants as item
 use Rattle.zl_verify.proofs.LocalSteps.{goes_on, not_stuck}
-use Rattle.zl_verify.proofs.AtCalls.{at_call}
+use Rattle.zl_verify.proofs.AtCalls.{IsAtCall, at_call}
+use Rattle.zl_verify.proofs.Blocks.{call_is_plain, plain_follows}
 use Rattle.zl_verify.proofs.OwnTable.{changed_here, losing_all, losing_same, removed_here}
 use Rattle.zl_verify.proofs.OwnCalls.{promised, Promised}
 use Rattle.zl_verify.proofs.OwnEffect.{caller_ending}
@@ -48,7 +51,8 @@ ended_there w p q there was code = record { process = process_ended code q; ther
 -- q did its step, of which x tells, and is y
 pub data Went (i : Image) (t : ℕ → Option State) (q y : Process) (x : TraceItem) : Type 0 where
   -- one instruction that is no pause, to the end of a followed edge
-  goes : executed x ≡ Some 1 → OneOf (λ n. y.cpu.counter ≡ n) (leads i t q.cpu.counter) → y.state ≡ Ready → Went i t q y x
+  goes : executed x ≡ Some 1 → OneOf (λ s. (y.cpu.counter, y.cpu.counters) ≡ s) (leads_on i t (q.cpu.counter, q.cpu.counters)) → y.state ≡ Ready
+      → Went i t q y x
   -- a wait
   pauses : executed x ≡ None → Went i t q y x
 
@@ -56,8 +60,8 @@ pub data Went (i : Image) (t : ℕ → Option State) (q y : Process) (x : TraceI
 pub data Stopped (i : Image) (q : Process) (x : TraceItem) : Type 0 where
   -- by process_exit
   by_exit : executed x ≡ None → Stopped i q x
-  -- by an instruction that is no pause
-  by_kill : executed x ≡ Some 1 → is_pause (call_at i q.cpu.counter) ≡ false → Stopped i q x
+  -- by a call that is no pause
+  by_kill : executed x ≡ Some 1 → (call : CallInstr) → instr_at i q.cpu.counter ≡ Some (instr.Call call) → is_pause_name call.name ≡ false → Stopped i q x
 
 waits_pause : (awaited : Awaited) (ds : List ℕ) (o : Option CallInstr) → WaitsAt (Blocked awaited ds) o → is_pause o ≡ true
 waits_pause awaited ds None w = absurd w
@@ -170,8 +174,11 @@ module _ (lib : Library) (i : Image) (t : ℕ → Option State) (range : is_in_r
       exited code (Values vs) None c = subst (λ v. HasEnded v p) (sym (c.2 ∙ ap (after_ok lib w p s vs) (sym c.1))) (exited_at vs code (sym c.1))
       exited code _ _ c = absurd c
 
+      here : IsAtCall i own.cpu called s
+      here = at_call i own.cpu called s next
+
       pause_here : is_pause (call_at i own.cpu.counter) ≡ is_pause_name called
-      pause_here = let at = at_call i own.cpu called s next in ap (λ o. is_pause (call_in o)) at.stands ∙ ap is_pause_name at.named
+      pause_here = ap (λ o. is_pause (call_in o)) here.stands ∙ ap is_pause_name here.named
 
       answered : (o : Outcome) → x ≡ item.Call p called o → (a : IsAnswered i t p own b.step.acted) → HasGone
       answered o is a = by (is_pause_name called) refl
@@ -182,8 +189,10 @@ module _ (lib : Library) (i : Image) (t : ℕ → Option State) (range : is_in_r
           by : (c : Bool) → is_pause_name called ≡ c → HasGone
           by true same = goes_to a.after a.there a.ready a.program a.conforms (pauses (told true same))
           by false same =
-              goes_to a.after a.there a.ready a.program a.conforms
-              (goes (told false same) (subst (OneOf (λ n. a.after.cpu.counter ≡ n)) (leads_so i t own.cpu.counter (pause_here ∙ same)) a.follows) a.ready)
+              let follows = plain_follows i own.cpu.counter a.after.cpu.counter own.cpu.counters (leads i t own.cpu.counter)
+              (call_is_plain i own.cpu.counter here.call here.stands)
+              (subst (OneOf (λ n. a.after.cpu.counter ≡ n)) (leads_so i t own.cpu.counter (pause_here ∙ same)) a.follows) in
+              goes_to a.after a.there a.ready a.program a.conforms (goes (told false same) (rw a.counters follows) a.ready)
 
       blocked : (o : Outcome) → x ≡ item.Call p called o → IsWaiting i t p own b.step.acted → HasGone
       blocked o is a =
@@ -202,7 +211,8 @@ module _ (lib : Library) (i : Image) (t : ℕ → Option State) (range : is_in_r
       stopped : (code : ℤ) → x ≡ item.Call p called (outcome.Ended code) → IsOwnEnd w p called s code → Stopped i own x
       stopped code is (exits n named asked told) = by_exit (ap executed is ∙ ap (λ (n : CallName). if is_pause_name n then None else Some 1) named)
       stopped code is (kills task named asked within told) =
-          by_kill (ap executed is ∙ ap (λ (n : CallName). if is_pause_name n then None else Some 1) named) (pause_here ∙ ap is_pause_name named)
+          by_kill (ap executed is ∙ ap (λ (n : CallName). if is_pause_name n then None else Some 1) named) here.call here.stands
+          (ap is_pause_name (here.named ∙ named))
 
       by_outcome : (o : Outcome) → x ≡ item.Call p called o → Calls lib w p s o b.step.acted → Promised i t w p own called s o b.step.acted
           → IsFineItem p x × HasGone

@@ -1,8 +1,9 @@
 -- What is true wherever an instruction goes on to the next one alone is true of each rule that is no jump's.
 use Rattle.zl_verify.proofs.Common.{ANY, AbsVal, Bool, Cause, Err, IfOk, Image, List, LocalInstr, None, Ok, Option, Result, SlotArray, Some, State, Word}
-use Rattle.zl_verify.proofs.Common.{and_then, eqb, false, if◌then◌else◌, in_memory, is_has, jump_in, loads, local_rule, ltb, may_move, moved, not, passes}
+use Rattle.zl_verify.proofs.Common.{and_then, eqb, false, if◌then◌else◌, in_memory, is_has, loads, local_rule, ltb, may_move, moved, not, passes}
 use Rattle.zl_verify.proofs.Common.{slice_get, slot_fault, stores, swaps_by, swaps_in, true, value_at, with_value, word_at, writes, ℕ, ◌≡◌}
 use Rattle.zl_abs.specs.Outcome.{Outcome}
+use Rattle.zl_verify.specs.Ahead.{may_jump}
 use Rattle.zl_abs.specs.LocalRules.{takes}
 use Rattle.zl_code.specs.declared.instr.LocalInstr.TheVariants as local
 use Rattle.zl_abs.specs.declared.cause.Cause.TheVariants as cause
@@ -50,7 +51,7 @@ module _ (P : Outcome → Type 0) (on : (s : State) → P (passes s)) where
   swaps_on s a b None = tt
   swaps_on s a b (Some t) = one P s b _ (λ place. if_on P (ltb place t.length) _ _ (swap_on s a t (slot_fault t (value_at s a))))
 
-  pub passes_on : (bounds : List ℕ) (i : Image) (x : LocalInstr) (s : State) → jump_in (Some x) ≡ None → IfOk (local_rule bounds i x s) P
+  pub passes_on : (bounds : List ℕ) (i : Image) (x : LocalInstr) (s : State) → may_jump x ≡ None → IfOk (local_rule bounds i x s) P
   unfolding local_rule
   passes_on bounds i (local.Const a imm) s e = writes_on s a _
   passes_on bounds i (local.Move a b) s e = one P s b _ (λ m. writes_on s a _)
@@ -68,4 +69,5 @@ module _ (P : Outcome → Type 0) (on : (s : State) → P (passes s)) where
   passes_on bounds i (local.LoadWord a b imm) s e = loads_on i s 8 ANY a b imm
   passes_on bounds i (local.StoreByte a b imm) s e = stores_on i s 1 a b imm
   passes_on bounds i (local.StoreWord a b imm) s e = stores_on i s 8 a b imm
+  passes_on bounds i (local.Rep imm end) s e = on s
   passes_on bounds i _ s e = cc

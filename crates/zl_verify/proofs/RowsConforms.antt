@@ -1,9 +1,11 @@
 -- A worked example: a process of a program with one handle and one slot array conforms where it starts.
+use Rattle.zl_code.specs.Image.{blank_image}
 use Rattle.zl_verify.proofs.Common.{ANY, Bool, Conforms, Describes, Entry, Has, Holds, Image, IsHandle, List, None, Option, Process, READ, Ready, SlotArray}
 use Rattle.zl_verify.proofs.Common.{Some, State, Table, Word, World, [], arith, called, creates, false, get, if◌then◌else◌, inl, inr, is_it, is_some, keepers}
 use Rattle.zl_verify.proofs.Common.{one_if, owners, owns, place_at, refl, replicate, rights_of, slice_get, slice_index, start_state, subst, suc, sym, true}
 use Rattle.zl_verify.proofs.Common.{value_at, with_all, with_value, zero, ℕ, ◌&&◌, ◌+◌, ◌<◌, ◌==◌, ◌∷◌, ◌≡◌, ◌≤◌}
 use Rattle.zl_rights.specs.declared.kind.Kind.TheVariants as kind
+use Rattle.zl_code.specs.Blocks.{blocks_at}
 use Rattle.zl_code.specs.declared.instr.Instr.TheVariants as instr
 use Rattle.zl_code.specs.declared.instr.LocalInstr.TheVariants as local
 use Rattle.zl_code.specs.declared.history.CallName.TheVariants as name
@@ -12,11 +14,8 @@ use Rattle.zl_verify.proofs.Starting.{owners_none}
 
 -- the channel goes into the slot array, and the process exits
 abbrev image : Image
-image = record {
-  raw = false;
-  memory = 0;
+image = record blank_image {
   budget = 4;
-  needs = [];
   starts = (record { kind = Some kind.Channel; rights = rights_of READ }) ∷ [];
   slots = (record { kind = Some kind.Channel; length = 2; rights = rights_of READ }) ∷ [];
   code = instr.Local (local.Take 2 0) ∷ instr.Local (local.Const 3 1) ∷ instr.Local (local.Swap 2 3 0) ∷ instr.Call (called name.ProcessExit (3 ∷ []) 0) ∷ [];
@@ -28,7 +27,7 @@ channel = record { koid = 4; kind = kind.Channel; rights = rights_of 12 }
 abbrev process : Process
 process = record {
   program = 0;
-  cpu = record { counter = 0; registers = 17 ∷ 5 ∷ replicate 30 0; memory = []; slots = (0 ∷ 0 ∷ []) ∷ [] };
+  cpu = record { counter = 0; registers = 17 ∷ 5 ∷ replicate 30 0; memory = []; slots = (0 ∷ 0 ∷ []) ∷ []; counters = [] };
   state = Ready;
   handles = (17, channel) ∷ [];
   last = None;
@@ -100,12 +99,13 @@ holds = record { width = refl; small = small; described = described; lengths = r
 
 -- with any typing that has the start state at the first instruction
 conforms : (t : ℕ → Option State) → t 0 ≡ Some (start_state image) → Conforms image t world 9 process
-unfolding creates
+unfolding creates blocks_at
 conforms t is = record {
   state = start_state image;
   stands = is;
   holds = subst (λ s. Holds (get process.handles) s process.cpu.registers image.slots process.cpu.slots) (sym starts) holds;
   memory = record { long = refl; bytes = λ k. omega arith };
+  counters = tt;
   allowed = λ c named. cc;
   waits = tt;
 }

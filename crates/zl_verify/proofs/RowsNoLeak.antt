@@ -1,11 +1,13 @@
 -- A worked example: a process with one handle in a register and one in a slot array conforms, and its table has just these two; and tables, states and places
 -- of which that isn't so.
+use Rattle.zl_code.specs.Image.{blank_image}
 use Rattle.zl_verify.proofs.Common.{ANY, AbsVal, Bool, Conforms, Contains, Cpu, Describes, Entry, Has, Holds, HoldsJustItsHandles, Image, IsDistinct, IsHandle}
 use Rattle.zl_verify.proofs.Common.{IsTrue, List, Map, None, Option, Process, READ, Ready, SlotArray, Some, Start, State, Word, World, [], arith, called}
 use Rattle.zl_verify.proofs.Common.{creates, eqb-true, false, get, handle_values, has_key, if◌then◌else◌, inl, inr, is_it, is_some, keepers, list_any}
 use Rattle.zl_verify.proofs.Common.{nat_tests, one_if, owners, owns, place_at, refl, replicate, rights_of, same_Some, slice_get, slice_index, subst, suc, sym}
 use Rattle.zl_verify.proofs.Common.{true, value_at, values_in_registers, values_in_slots, zero, ℕ, ◌&&◌, ◌+◌, ◌<◌, ◌==◌, ◌↔◌, ◌∷◌, ◌≡◌, ◌≤◌}
 use Rattle.zl_rights.specs.declared.kind.Kind.TheVariants as kind
+use Rattle.zl_code.specs.Blocks.{blocks_at}
 use Rattle.zl_code.specs.declared.instr.Instr.TheVariants as instr
 use Rattle.zl_code.specs.declared.instr.LocalInstr.TheVariants as local
 use Rattle.zl_code.specs.declared.history.CallName.TheVariants as name
@@ -21,11 +23,8 @@ a_channel = record { kind = Some kind.Channel; rights = rights_of READ }
 
 -- of two channels the first goes into the slot array, at place 1, and the process exits
 abbrev image : Image
-image = record {
-  raw = false;
-  memory = 0;
+image = record blank_image {
   budget = 4;
-  needs = [];
   starts = a_channel ∷ a_channel ∷ [];
   slots = (record { kind = Some kind.Channel; length = 2; rights = rights_of READ }) ∷ [];
   code = instr.Local (local.Take 3 0) ∷ instr.Local (local.Const 4 1) ∷ instr.Local (local.Swap 3 4 0) ∷ instr.Call (called name.ProcessExit (4 ∷ []) 0) ∷ [];
@@ -39,7 +38,7 @@ abbrev handles : Map Entry
 handles = (17, channel 4) ∷ (23, channel 6) ∷ []
 
 abbrev cpu : Cpu
-cpu = record { counter = 3; registers = 0 ∷ 23 ∷ 5 ∷ 0 ∷ 1 ∷ replicate 27 0; memory = []; slots = (0 ∷ 17 ∷ []) ∷ [] }
+cpu = record { counter = 3; registers = 0 ∷ 23 ∷ 5 ∷ 0 ∷ 1 ∷ replicate 27 0; memory = []; slots = (0 ∷ 17 ∷ []) ∷ []; counters = [] }
 
 -- a process with this Cpu and this table
 abbrev process : Cpu → Map Entry → Process
@@ -105,12 +104,13 @@ holds = record { width = refl; small = small; described = described; lengths = r
     stored (suc n) k a is less = cc
 
 conforms : (t : ℕ → Option State) → t 3 ≡ Some known → Conforms image t world 9 (process cpu handles)
-unfolding creates
+unfolding creates blocks_at
 conforms t is = record {
   state = known;
   stands = is;
   holds = holds;
   memory = record { long = refl; bytes = λ k. omega arith };
+  counters = tt;
   allowed = λ c named. cc;
   waits = tt;
 }

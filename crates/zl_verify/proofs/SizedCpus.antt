@@ -4,7 +4,7 @@ use Rattle.zl_verify.proofs.Common.{answered, arith, bit_and, blank_cpu, bytes_o
 use Rattle.zl_verify.proofs.Common.{is_local_in_range, length, local_effect, local_parts, map, nat_lt, number_of, overwritten, refl, reg, replicate, set_from}
 use Rattle.zl_verify.proofs.Common.{sets, shifted, slice_get, slice_index, slice_index_or, slice_set, subst, suc, swaps, take, true, with_handles, written}
 use Rattle.zl_verify.proofs.Common.{zero, ℕ, ◌+◌, ◌-◌, ◌<◌, ◌^◌, ◌∷◌, ◌≡◌, ◌≤◌}
-use Rattle.zl_code.specs.Local.{loads, stores, swaps_in}
+use Rattle.zl_code.specs.Local.{loads, stores, swaps_in, turns_by}
 use Rattle.zl_code.specs.declared.instr.LocalInstr.TheVariants as local
 use Rattle.zl_verify.proofs.Agreeing.{wrapped_few, or_few, xor_few, up_few, down_less, imm_in}
 use Rattle.zl_verify.proofs.Memories.{byte_less, word_less, bytes_over, all_of}
@@ -119,6 +119,10 @@ module _ (c : Cpu) (h : IsSizedCpu c) where
           }
           by false = tt
 
+  -- its counters and the place where it stands are others
+  still : (n : ℕ) (ns : List ℕ) → IsSizedCpu (record c { counters = ns; counter = n })
+  still n ns = record { small = h.small; bytes = h.bytes; narrow = h.narrow }
+
   pub local_sized : (x : LocalInstr) → is_local_in_range x ≡ true → IfSome (local_effect x c) IsSizedCpu
   unfolding local_effect local_parts
   local_sized (local.Const a imm) r = sets_sized a imm (imm_in imm 0 (a ∷ []) r)
@@ -141,4 +145,14 @@ module _ (c : Cpu) (h : IsSizedCpu c) where
   local_sized (local.LoadWord a b imm) r = loads_sized 8 a (reg c b + imm) (word_less c.memory (reg c b + imm) h.bytes)
   local_sized (local.StoreByte a b imm) r = stores_sized 1 (reg c a + imm) (reg c b)
   local_sized (local.StoreWord a b imm) r = stores_sized 8 (reg c a + imm) (reg c b)
+  local_sized (local.Rep imm e) r = entered (nat_lt (length c.counters) 4)
+    where
+      entered : (b : Bool) → IfSome (if b then Some (record c { counters = imm ∷ c.counters; counter = c.counter + 1 }) else None) IsSizedCpu
+      entered true = still (c.counter + 1) (imm ∷ c.counters)
+      entered false = tt
+  local_sized (local.EndRep rep) r = by c.counters
+    where
+      by : (ns : List ℕ) → IfSome (turns_by c rep ns) IsSizedCpu
+      by [] = tt
+      by (n ∷ ns) = cond_both (nat_lt 1 n) _ _ (λ o. IfSome o IsSizedCpu) (λ _. still (rep + 1) ((n - 1) ∷ ns)) (λ _. still (c.counter + 1) ns)
   local_sized _ r = h

@@ -6,6 +6,8 @@ use Rattle.zl_verify.proofs.Common.{body_of, boot_effect, boot_sound, calls_at, 
 use Rattle.zl_verify.proofs.Common.{is_in_range, is_instr_in_range, job_within, local_effect, may_boot, moves, next_at, next_for, next_in, next_of, none-some}
 use Rattle.zl_verify.proofs.Common.{origin, pid_of, process_with, process_with_all, ranges, refl, same_Some, setting, single, site_of, slice_get, step_sound}
 use Rattle.zl_verify.proofs.Common.{subst, suc, true, with_object, word_of, zero, ℕ, ⊤, ◌+◌, ◌==◌, ◌∷◌, ◌≡◌, ◌≤◌}
+use Rattle.zl_verify.proofs.Common.{both, local_parts, is_local_in_range}
+use Rattle.zl_code.specs.Instructions.{is_known}
 use Rattle.zl_code.specs.Steps.{IsLegalHistory}
 use Rattle.zl_code.specs.declared.boot.Statement.TheVariants as statement
 use Rattle.zl_code.specs.declared.instr.Instr.TheVariants as instr
@@ -24,7 +26,7 @@ IsSizedNext IsStuck = ⊤
 
 next_sized : (i : Image) (c : Cpu) → is_in_range i ≡ true → IsSizedCpu c → IsSizedNext (next_at i c)
 unfolding next_at
-next_sized i c range h = by (instr_at i c.counter) (in_range_at i.raw i.code c.counter (ranges i range).code)
+next_sized i c range h = by (instr_at i c.counter) (in_range_at i.version i.raw i.code c.counter (ranges i range).code)
   where
     moved : (o : Option Cpu) → IfSome o IsSizedCpu → IsSizedNext (moves o)
     moved None k = tt
@@ -34,8 +36,8 @@ next_sized i c range h = by (instr_at i c.counter) (in_range_at i.raw i.code c.c
     called x None is = tt
     called x (Some t) is = request_sized c h x t is
 
-    by : (o : Option Instr) → IfSome o (λ x. is_instr_in_range i.raw x ≡ true) → IsSizedNext (next_of o c)
-    by (Some (instr.Local x)) r = moved (local_effect x c) (local_sized c h x r)
+    by : (o : Option Instr) → IfSome o (λ x. is_instr_in_range i.version i.raw x ≡ true) → IsSizedNext (next_of o c)
+    by (Some (instr.Local x)) r = moved (local_effect x c) (local_sized c h x (both (is_known i.version (local_parts x).opcode) (is_local_in_range x) r).1)
     by (Some (instr.Call x)) r = called x (site_of x c) refl
     by _ r = tt
 

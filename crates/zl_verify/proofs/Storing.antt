@@ -15,12 +15,13 @@ pub record IsButMemory (new old : Process) : Type 0 where
   pub registers : new.cpu.registers ≡ old.cpu.registers
   pub counter : new.cpu.counter ≡ old.cpu.counter
   pub slots : new.cpu.slots ≡ old.cpu.slots
+  pub counters : new.cpu.counters ≡ old.cpu.counters
   pub state : new.state ≡ old.state
   pub program : new.program ≡ old.program
 
 pub storing_same : (at : ℕ × List ℕ) (q : Process) → IsButMemory (storing_in at q) q
-storing_same (address, []) q = record { handles = refl; registers = refl; counter = refl; slots = refl; state = refl; program = refl }
-storing_same (address, b ∷ bytes) q = record { handles = refl; registers = refl; counter = refl; slots = refl; state = refl; program = refl }
+storing_same (address, []) q = record { handles = refl; registers = refl; counter = refl; slots = refl; counters = refl; state = refl; program = refl }
+storing_same (address, b ∷ bytes) q = record { handles = refl; registers = refl; counter = refl; slots = refl; counters = refl; state = refl; program = refl }
 
 module _ (i : Image) (q new : Process) (same : new.cpu ≡ q.cpu) (memory : IsMemory i q.cpu.memory) where
   storing_whole : (address : ℕ) (bytes : List ℕ) → AreBytes bytes → address + length bytes ≤ length q.cpu.memory

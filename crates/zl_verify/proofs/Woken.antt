@@ -266,6 +266,7 @@ module _ (i : Image) (t : ℕ → Option State) (range : is_in_range i ≡ true)
           stands = k.stands;
           holds = k.holds;
           memory = k.memory;
+          counters = k.counters;
           allowed = still_allowed q at (lives_then q.state running);
           waits = k.waits;
         })
@@ -273,6 +274,7 @@ module _ (i : Image) (t : ℕ → Option State) (range : is_in_range i ≡ true)
       after = h.now;
       there = h.there;
       follows = up.follows;
+      counters = up.counters;
       ready = up.ready;
       program = up.program;
       conforms = record {
@@ -280,6 +282,7 @@ module _ (i : Image) (t : ℕ → Option State) (range : is_in_range i ≡ true)
         stands = up.typed.stands;
         holds = up.typed.holds;
         memory = up.typed.memory;
+        counters = up.typed.counters;
         allowed = still_allowed h.now h.there (ap lives up.ready);
         waits = up.typed.waits;
       };

@@ -65,11 +65,12 @@ ends_by i n (Some s) = targets_of (rule i n s)
 abbrev pub ends_of : Image → (ℕ → Option State) → ℕ → List ℕ
 ends_of i t n = ends_by i n (t n)
 
--- In w2 the process p, which was q, stands ready at the end of a followed edge, and conforms.
+-- In w2 the process p, which was q, stands ready at the end of a followed edge, with the counters that it had, and conforms.
 pub record IsAnswered (i : Image) (t : ℕ → Option State) (p : ℕ) (q : Process) (w2 : World) : Type 0 where
   pub after : Process
   pub there : get w2.processes p ≡ Some after
   pub follows : OneOf (λ n. after.cpu.counter ≡ n) (ends_of i t q.cpu.counter)
+  pub counters : after.cpu.counters ≡ q.cpu.counters
   pub ready : after.state ≡ Ready
   pub program : after.program ≡ q.program
   pub conforms : Conforms i t w2 p after

@@ -3,27 +3,29 @@ use Rattle.std.specs.Prelude.{ℕ, ◌≡◌, ◌<◌, Bool, true, false, List, 
 use Rattle.zl_code.specs.Image.{Image}
 use Rattle.zl_abs.specs.States.{State}
 use Rattle.zl_abs.specs.Typing.{IsAbove, IsTyping}
+use Rattle.zl_verify.specs.declared.steps.Longest.{Longest}
 use Rattle.zl_verify.specs.Lists.{at}
+use Rattle.zl_verify.specs.Peaks.{numbers_by}
 use Rattle.zl_verify.specs.declared.refusal.RefusalCause.{RefusalCause}
 use Rattle.zl_verify.specs.declared.refusal.RefusalCause.TheVariants as cause
 use Rattle.zl_verify.specs.Steps.{IsStepBound, IsOver}
 
--- an accepted image, with a state and a number of steps at some of its instructions
+-- an accepted image, with a state and the longest ways at some of its instructions
 pub record Accepted : Type 0 where
   pub image : Image
   pub states : List (Option State)
-  pub steps : List (Option ℕ)
+  pub steps : List (Option Longest)
 
--- the states are a typing of the image, and the numbers a step bound of it
-pub record IsAccepted (i : Image) (states : List (Option State)) (steps : List (Option ℕ)) : Type 0 where
+-- the states are a typing of the image, and the ways stand for a step bound of it
+pub record IsAccepted (i : Image) (states : List (Option State)) (steps : List (Option Longest)) : Type 0 where
   pub typing : IsTyping i (at states)
-  pub bound : IsStepBound i (at states) (at steps)
+  pub bound : IsStepBound i (at states) (numbers_by i steps)
 
 -- the image has a typing and a step bound of it
 pub record HasStepBound (i : Image) : Type 0 where
   pub states : ℕ → Option State
   pub typing : IsTyping i states
-  pub steps : ℕ → Option ℕ
+  pub steps : ℕ → List ℕ → ℕ
   pub bound : IsStepBound i states steps
 
 -- a typing whose states lie below those of every typing
@@ -40,7 +42,7 @@ pub record HasNoTyping (i : Image) : Type 0 where
 pub record IsOverBudget (i : Image) (n : ℕ) : Type 0 where
   pub found : ℕ → Option State
   pub typing : IsLeastTyping i found
-  pub none : (t : ℕ → Option State) (steps : ℕ → Option ℕ) → IsTyping i t → IsStepBound i t steps → ⊥
+  pub none : (t : ℕ → Option State) (steps : ℕ → List ℕ → ℕ) → IsTyping i t → IsStepBound i t steps → ⊥
   pub over : IsOver i found n
   pub first : (m : ℕ) → m < n → IsOver i found m → ⊥
 

@@ -21,6 +21,7 @@ use Rattle.zl_abs.specs.declared.value.AbsVal.{AbsVal}
 use Rattle.zl_abs.specs.declared.value.AbsVal.TheVariants.{Word, Has, KindOf, RightsOf}
 use Rattle.zl_abs.specs.Values.{ANY, kind_below, is_has}
 use Rattle.zl_abs.specs.States.{State, value_at}
+use Rattle.zl_verify.specs.Steps.{AreCountersAt}
 
 -- ---- what a value describes
 
@@ -126,6 +127,8 @@ pub record Conforms (i : Image) (t : ℕ → Option State) (w : World) (p : ℕ)
   pub stands : t q.cpu.counter ≡ Some state
   pub holds : Holds (get q.handles) state q.cpu.registers i.slots q.cpu.slots
   pub memory : IsMemory i q.cpu.memory
+  -- one counter for each block that it is in
+  pub counters : AreCountersAt i q.cpu.counter q.cpu.counters
   -- the policy of its job allows what the image declares that it needs
   pub allowed : (c : Condition) → IsTrue (is_among i.needs c) → creates w p c ≡ None
   pub waits : WaitsAt q.state (call_at i q.cpu.counter)

@@ -12,6 +12,7 @@ use Rattle.zl_code.specs.Operands.{creates}
 use Rattle.zl_abs.specs.States.{State}
 use Rattle.zl_abs.specs.Typing.{IsTyping}
 use Rattle.zl_verify.specs.Conforms.{Table, Holds, IsMemory, Conforms}
+use Rattle.zl_verify.specs.Steps.{AreCountersAt}
 use Rattle.zl_verify.specs.SizedLaws.{IsSized}
 use Rattle.zl_verify.specs.Checks.{HasStepBound}
 
@@ -54,6 +55,7 @@ pub record StandsBy (i : Image) (t : ℕ → Option State) (f : Table) (c : Cpu)
   pub stands : t c.counter ≡ Some state
   pub holds : Holds f state c.registers i.slots c.slots
   pub memory : IsMemory i c.memory
+  pub counters : AreCountersAt i c.counter c.counters
 
 -- The Cpu is as some typing of the image says, with some table, whose handles have no unknown right.
 pub record IsAble (i : Image) (c : Cpu) : Type 0 where

@@ -1,10 +1,10 @@
 -- Where the instructions of a typing lead, as the code keeps it. No public clause cites this module.
-use Rattle.std.specs.Prelude.{ℕ, ◌≡◌, Bool, true, false, List, [], length, Option, Some, None}
+use Rattle.std.specs.Prelude.{ℕ, ◌≡◌, Bool, true, false, List, [], length, Option, Some, None, slice_get}
 use Rattle.zl_code.specs.Image.{Image}
 use Rattle.zl_abs.specs.declared.steps.Step.{Step}
 use Rattle.zl_abs.specs.States.{State}
 use Rattle.zl_verify.specs.Lists.{at}
-use Rattle.zl_verify.specs.Numbers.{places_at}
+use Rattle.zl_verify.specs.Nested.{places_at, IsPacked}
 use Rattle.zl_verify.specs.declared.steps.Targets.{Targets}
 use Rattle.zl_verify.specs.Steps.{leads}
 
@@ -17,6 +17,7 @@ target_in (Some e) = Some e.target
 pub record AreTargets (i : Image) (states : List (Option State)) (targets : List Targets) : Type 0 where
   pub long : length targets ≡ length states
   pub same : (n : ℕ) → places_at targets n ≡ leads i (at states) n
+  pub packed : (n : ℕ) → IsPacked (slice_get targets n)
 
 -- nowhere from a pause
 abbrev pub unless_pause : Bool → List ℕ → List ℕ

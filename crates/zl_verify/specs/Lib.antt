@@ -1,7 +1,9 @@
 pub mod Lists
 pub mod Steps
 pub mod Over
-pub mod Numbers
+pub mod Nested
+pub mod Longest
+pub mod Peaks
 pub mod Search
 pub mod Marks
 pub mod Stretches

@@ -1,6 +1,9 @@
 -- The step bound of a typing: how many instructions a process does at most before it waits or exits.
-use Rattle.std.specs.Prelude.{ℕ, zero, suc, ◌≡◌, ◌+◌, ◌<◌, ◌⊎◌, Bool, false, List, [], ◌∷◌, map, Option, Some, None, Result, Ok, Err, if◌then◌else◌}
+use Rattle.std.specs.Prelude.{ℕ, zero, suc, ◌≡◌, ◌+◌, ◌<◌, ◌≤◌, ◌==◌, ◌⊎◌, Bool, false, List, [], ◌∷◌, ◌++◌, map, Option, Some, None, Result, Ok, Err, if◌then◌else◌, slice_get}
+use Rattle.zl_code.specs.declared.blocks.Mark.{Mark}
+use Rattle.zl_code.specs.declared.blocks.Mark.TheVariants as mark
 use Rattle.zl_code.specs.declared.instr.CallInstr.{CallInstr}
+use Rattle.zl_code.specs.Blocks.{marks_of, blocks_at, AreCounters}
 use Rattle.zl_code.specs.Headline.{is_pause_name}
 use Rattle.zl_code.specs.Image.{Image, call_at}
 use Rattle.zl_abs.specs.declared.cause.Cause.{Cause}
@@ -27,36 +30,78 @@ leads_by i n (Some s) = if is_pause (call_at i n) then [] else targets_of (rule 
 abbrev pub leads : Image → (ℕ → Option State) → ℕ → List ℕ
 leads i t n = leads_by i n (t n)
 
+-- ---- places with counters
+
+-- an instruction, and the counters of the blocks that it is in, the innermost first
+abbrev pub Spot : Type 0
+Spot = ℕ × List ℕ
+
+-- behind an endrep: on with the counter dropped, which was 1, or back with the counter one less
+abbrev pub lowered : ℕ → ℕ → List ℕ → Option (List ℕ)
+lowered n m [] = None
+lowered n m (zero ∷ cs) = None
+lowered n m (suc zero ∷ cs) = if m == n + 1 then Some cs else None
+lowered n m (suc (suc c) ∷ cs) = if m == n + 1 then None else Some (suc c ∷ cs)
+
+-- the counters behind an edge from the n-th instruction to the m-th, if it is followed with these
+abbrev pub counters_at : Option Mark → ℕ → ℕ → List ℕ → Option (List ℕ)
+counters_at (Some (mark.Rep imm end)) n m cs = Some (imm ∷ cs)
+counters_at (Some (mark.EndRep rep)) n m cs = lowered n m cs
+counters_at _ n m cs = Some cs
+
+abbrev pub spot_at : ℕ → Option (List ℕ) → List Spot
+spot_at m None = []
+spot_at m (Some cs) = (m, cs) ∷ []
+
+-- the same of edges to each of these
+abbrev pub spots : Option Mark → ℕ → List ℕ → List ℕ → List Spot
+spots k n cs [] = []
+spots k n cs (m ∷ ms) = spot_at m (counters_at k n m cs) ++ spots k n cs ms
+
+-- where edges to these lead from the spot
+abbrev pub spots_to : Image → Spot → List ℕ → List Spot
+spots_to i p ms = spots (slice_get (marks_of i.code) p.0) p.0 p.1 ms
+
+-- where the followed edges lead from a spot
+abbrev pub leads_on : Image → (ℕ → Option State) → Spot → List Spot
+leads_on i t p = spots_to i p (leads i t p.0)
+
+-- one counter for each block that the instruction is in, from 1 to the imm of its rep
+abbrev pub AreCountersAt : Image → ℕ → List ℕ → Type 0
+AreCountersAt i n cs = AreCounters (marks_of i.code) (blocks_at (marks_of i.code) n) cs
+
 -- ---- the bound
 
--- the number is there, and lies below m
-abbrev pub IsBelow : Option ℕ → ℕ → Type 0
-IsBelow None m = ⊥
-IsBelow (Some k) m = k < m
+-- each of these spots has a number below k
+abbrev pub AllBelow : (ℕ → List ℕ → ℕ) → ℕ → List Spot → Type 0
+AllBelow steps k [] = Unit {0}
+AllBelow steps k (p ∷ ps) = (steps p.0 p.1 < k) × AllBelow steps k ps
 
--- each of these instructions has a number below m
-abbrev pub AllBelow : (ℕ → Option ℕ) → ℕ → List ℕ → Type 0
-AllBelow steps m [] = Unit {0}
-AllBelow steps m (n ∷ ns) = IsBelow (steps n) m × AllBelow steps m ns
-
--- each mapped instruction has a number from 0 to the budget; but at a pause it is at least one more than
--- the number at each followed edge's end
-pub record IsStepBound (i : Image) (t : ℕ → Option State) (steps : ℕ → Option ℕ) : Type 0 where
-  pub within : (n : ℕ) (s : State) → t n ≡ Some s → IsBelow (steps n) (i.budget + 1)
-  pub falls : (n m : ℕ) → steps n ≡ Some m → AllBelow steps m (leads i t n)
+-- a number for each instruction with each list of counters: from 0 to the budget where it is mapped, and but
+-- at a pause at least one more than the number at each followed edge's end
+pub record IsStepBound (i : Image) (t : ℕ → Option State) (steps : ℕ → List ℕ → ℕ) : Type 0 where
+  pub within : (n : ℕ) (s : State) (cs : List ℕ) → t n ≡ Some s → AreCountersAt i n cs → steps n cs ≤ i.budget
+  pub falls : (n : ℕ) (cs : List ℕ) → AreCountersAt i n cs → AllBelow steps (steps n cs) (leads_on i t (n, cs))
 
 -- ---- what is over
 
--- one of these instructions has it
-abbrev pub OneOf : (ℕ → Type 0) → List ℕ → Type 0
+-- one of these has it
+abbrev pub OneOf : {A : Type 0} → (A → Type 0) → List A → Type 0
 OneOf P [] = ⊥
-OneOf P (n ∷ ns) = P n ⊎ OneOf P ns
+OneOf P (x ∷ xs) = P x ⊎ OneOf P xs
 
--- so many instructions follow one another from the n-th on, each led to by the one before it
-abbrev pub Follow : (ℕ → List ℕ) → ℕ → ℕ → Type 0
-Follow leads zero n = Unit {0}
-Follow leads (suc k) n = OneOf (λ m. Follow leads k m) (leads n)
+-- so many instructions follow one another from the spot on, each led to by the one before it
+abbrev pub Follow : (Spot → List Spot) → ℕ → Spot → Type 0
+Follow leads zero p = Unit {0}
+Follow leads (suc k) p = OneOf (λ q. Follow leads k q) (leads p)
 
--- the n-th instruction is over: more than budget of them follow one another from it, none of them a pause
+-- so many steps can be made one after another from the n-th instruction, with some counters
+pub record Follows (i : Image) (t : ℕ → Option State) (k n : ℕ) : Type 0 where
+  pub counters : List ℕ
+  pub are : AreCountersAt i n counters
+  pub follow : Follow (leads_on i t) k (n, counters)
+
+-- the n-th instruction is over: more than budget instructions follow one another from it, with some counters,
+-- none of them a pause
 abbrev pub IsOver : Image → (ℕ → Option State) → ℕ → Type 0
-IsOver i t n = Follow (leads i t) (suc i.budget) n
+IsOver i t n = Follows i t (suc i.budget) n

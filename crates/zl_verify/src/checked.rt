@@ -5,29 +5,31 @@ ghost use Rattle.zl_abs.specs.Bounds.{RoundAlike, bounds_of};
 ghost use Rattle.zl_abs.specs.Typing.{IsTyping};
 ghost use Rattle.zl_verify.specs.Lists.{at};
 ghost use Rattle.zl_verify.specs.Stretches.{states_of};
+ghost use Rattle.zl_verify.specs.Peaks.{numbers_by};
 ghost use Rattle.zl_verify.specs.Steps.{IsStepBound};
 ghost use Rattle.zl_verify.specs.Checks.{IsLeastTyping, IsRefused};
 ghost use Rattle.zl_code.specs.Headline.{IsNeverRefused};
 ghost use Rattle.zl_verify.specs.NoLeak.{NeverLeaks};
 
 use crate::ahead::bound_ahead;
+use crate::peaks::{Unbounded, bound_of};
 use crate::refusal::{Refusal, RefusalCause};
 use crate::search::{Fault, Found, solve};
 use crate::seen::Seen;
-use crate::steps::{first_over, numbers};
+use crate::steps::Longest;
 use crate::targets::targets_of;
 use std::alloc::Global;
 use std::marker::Model;
 use zl_abs::Bounds;
 use zl_code::Image;
 
-/// An accepted image, with what is known at each instruction that can be reached, and how many
-/// instructions follow one another from there at most before a wait or an exit. Own profile.
+/// An accepted image, with what is known at each instruction that can be reached, and how long the
+/// ways from there are at most before a wait or an exit. Own profile.
 #[derive(Drop)]
 pub struct Checked {
     image: Image,
     found: Found,
-    steps: Vec<Option<u32>>,
+    steps: Vec<Option<Longest>>,
 }
 
 impl Model for Checked {
@@ -52,7 +54,8 @@ impl Checked {
         ensures value { result.now ≡ self.now.image }
         // What is public of the invariant: callers learn it here of any accepted image.
         ensures typing { IsTyping self.now.image (at self.now.states) }
-        ensures bound { IsStepBound self.now.image (at self.now.states) (at self.now.steps) }
+        ensures bound { IsStepBound self.now.image (at self.now.states)
+            (numbers_by self.now.image self.now.steps) }
     {
         &self.image
     }
@@ -83,28 +86,25 @@ fn exact_bound(
     bounds: &Bounds,
     image: &Image,
     found: &Found,
-) -> Result<Vec<Option<u32>>, Fault>
+) -> Result<Vec<Option<Longest>>, Fault>
     requires alike { RoundAlike bounds.now (bounds_of image.now.code) }
     requires typing { IsLeastTyping image.now
         (at (states_of image.now found.now.stretches.numbers found.now.states.items)) }
     ensures bound { IfOk result (λ steps. IsStepBound image.now
         (at (states_of image.now found.now.stretches.numbers found.now.states.items))
-        (at steps.items)) }
+        (numbers_by image.now steps.items)) }
     ensures exact { IfErr result (λ fault. IsRefused image.now fault.at fault.cause) }
 {
     let Ok(targets) = targets_of(alloc, bounds, image, found) else {
         return Err(Fault::at_once(RefusalCause::NoMemory));
     };
-    let most = image.budget() + 1;
-    let Ok(steps) = numbers(alloc, &targets, most) else {
-        return Err(Fault::at_once(RefusalCause::NoMemory));
-    };
-    match first_over(&steps, most) {
-        None => Ok(steps),
-        Some(at) => Err(Fault {
+    match bound_of(alloc, image, &targets) {
+        Ok(steps) => Ok(steps),
+        Err(Unbounded::Over(at)) => Err(Fault {
             at,
             cause: RefusalCause::Budget,
         }),
+        Err(Unbounded::NoMemory) => Err(Fault::at_once(RefusalCause::NoMemory)),
     }
 }
 
@@ -114,20 +114,20 @@ fn bound(
     bounds: &Bounds,
     image: &Image,
     found: &Found,
-) -> Result<Vec<Option<u32>>, Fault>
+) -> Result<Vec<Option<Longest>>, Fault>
     requires alike { RoundAlike bounds.now (bounds_of image.now.code) }
     requires typing { IsLeastTyping image.now
         (at (states_of image.now found.now.stretches.numbers found.now.states.items)) }
     ensures bound { IfOk result (λ steps. IsStepBound image.now
         (at (states_of image.now found.now.stretches.numbers found.now.states.items))
-        (at steps.items)) }
+        (numbers_by image.now steps.items)) }
     ensures exact { IfErr result (λ fault. IsRefused image.now fault.at fault.cause) }
 {
     match bound_ahead(alloc, image) {
-        Ok(Some(steps)) => Ok(steps),
+        Ok(steps) => Ok(steps),
         // Where the code alone gives none, what is known at the instructions may give one yet.
-        Ok(None) => exact_bound(alloc, bounds, image, found),
-        Err(_) => Err(Fault::at_once(RefusalCause::NoMemory)),
+        Err(Unbounded::Over(_)) => exact_bound(alloc, bounds, image, found),
+        Err(Unbounded::NoMemory) => Err(Fault::at_once(RefusalCause::NoMemory)),
     }
 }
 
@@ -143,7 +143,7 @@ fn refuse(image: Image, fault: Fault) -> Refusal
 
 /// Accepts the image, where it has a typing and a step bound of it, or refuses it, with the
 /// instruction at which it was seen why not. It takes memory for what is known at each instruction,
-/// for three numbers more, and for the bounds of the image's words.
+/// for some numbers more, and for the bounds of the image's words.
 ///
 /// `Rule` where the rule of the instruction doesn't hold at what is known there, and `JoinConflict`
 /// where nothing describes what may come to it: both only of an image that has no typing, and that it
@@ -154,7 +154,7 @@ pub fn check(alloc: Global, image: Image) -> Result<Checked, Refusal>
     ensures accepted { IfOk result (λ checked. checked.image ≡ image) }
     ensures typing { IfOk result (λ checked. IsTyping image (at checked.states)) }
     ensures bound { IfOk result (λ checked.
-        IsStepBound image (at checked.states) (at checked.steps)) }
+        IsStepBound image (at checked.states) (numbers_by image checked.steps)) }
     ensures given_back { IfErr result (λ refusal. refusal.image ≡ image) }
     ensures exact { IfErr result (λ refusal. IsRefused image refusal.at refusal.cause) }
 {

@@ -12,6 +12,7 @@ ghost use Rattle.zl_code.specs.declared.history.CallName.TheVariants as name;
 ghost use Rattle.zl_code.specs.declared.history.Outcome.TheVariants as outcome;
 ghost use Rattle.zl_code.specs.declared.history.TraceItem.{TraceItem};
 ghost use Rattle.zl_code.specs.declared.history.TraceItem.TheVariants as item;
+ghost use Rattle.zl_code.specs.declared.image.Version.TheVariants as version;
 ghost use Rattle.zl_code.specs.declared.instr.CallInstr.{CallInstr};
 ghost use Rattle.zl_code.specs.Image.{Image, Library, call_at, is_among};
 ghost use Rattle.zl_code.specs.Operands.{by_policy, creates, examined};
@@ -176,7 +177,7 @@ pub fn never_refused()
 /// has a step bound, whatever others do: it takes no more instructions than the budget up to its
 /// next wait or its exit, and no more than the budget behind each wait. Own profile.
 pub fn budget_kept()
-    ensures { (i : Image) (t : ℕ → Option State) (steps : ℕ → Option ℕ)
+    ensures { (i : Image) (t : ℕ → Option State) (steps : ℕ → List ℕ → ℕ)
         → IsTrue (is_in_range i) → IsTyping i t → IsStepBound i t steps
         → (lib : Library) (statements : List Statement) (boot w after : World)
         (items more : List TraceItem) (p : ℕ)
@@ -192,7 +193,18 @@ pub fn over_is_by_count()
     ensures leads_on { (i : Image) (n : ℕ) (s : State) (edges : List Edge)
         → is_pause (call_at i n) ≡ false → rule i n s ≡ Ok edges → edges ≢ [] }
     ensures same { (i : Image) (t : ℕ → Option State) (n : ℕ)
-        → IsTyping i t → (IsOver i t n ↔ IsOverByCount i t n) }
+        → IsTrue (is_in_range i) → IsTyping i t → (IsOver i t n ↔ IsOverByCount i t n) }
+{}
+
+/// An image of version 1 as one of version 2 has the same typings, and they have the same step bounds.
+/// Own profile.
+pub fn upgrade_keeps_typing()
+    ensures typing { (i : Image) (t : ℕ → Option State)
+        → IsTrue (is_in_range i) → i.version ≡ version.One
+        → (IsTyping i t ↔ IsTyping (record i { version = version.Two }) t) }
+    ensures bound { (i : Image) (t : ℕ → Option State) (steps : ℕ → List ℕ → ℕ)
+        → IsTrue (is_in_range i) → i.version ≡ version.One
+        → (IsStepBound i t steps ↔ IsStepBound (record i { version = version.Two }) t steps) }
 {}
 
 /// Where a library's checked programs have a typing with a step bound: in a boot world each process of

@@ -85,8 +85,8 @@ fn begins_of(alloc: Global, image: &Image) -> Result<Vec<bool>, AllocError>
 
 /// A stretch begins there, if an instruction is there.
 #[tactic(auto, using(crate::proofs::Marking::same_past))]
-fn mark(begins: &mut [bool], place: usize)
-    ensures { begins.new ≡ slice_set begins.old place true }
+fn mark(begins: &mut Vec<bool>, place: usize)
+    ensures { begins.new.items ≡ slice_set begins.old.items place true }
 {
     if place < begins.len() {
         begins[place] = true;

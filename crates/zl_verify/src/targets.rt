@@ -2,6 +2,7 @@
 
 ghost use Rattle.std.specs.Prelude.{◌≡◌, ◌++◌, IfOk, Some};
 ghost use Rattle.std.specs.Option.{option_to_list};
+ghost use Rattle.zl_code.specs.Blocks.{marks_of};
 ghost use Rattle.zl_code.specs.Image.{call_at};
 ghost use Rattle.zl_abs.specs.Bounds.{RoundAlike, bounds_of};
 ghost use Rattle.zl_abs.specs.Changes.{changed, step_in};
@@ -9,7 +10,7 @@ ghost use Rattle.zl_abs.specs.Typing.{rule};
 ghost use Rattle.zl_verify.specs.Lists.{at};
 ghost use Rattle.zl_verify.specs.Steps.{is_pause, leads_by};
 ghost use Rattle.zl_verify.specs.Stretches.{inner, inner_last, inner_of, known_by, passed_on, states_of};
-ghost use Rattle.zl_verify.specs.Numbers.{places};
+ghost use Rattle.zl_verify.specs.Nested.{places, IsNested, IsPacked};
 ghost use Rattle.zl_verify.specs.Leading.{flow_in, target_in, unless_pause, AreTargets};
 
 use crate::edges::edges_at;
@@ -43,16 +44,14 @@ fn target_of(edge: &Option<Step>) -> Option<usize>
 
 /// The places of these edges; nowhere from a pause.
 fn targets_in(image: &Image, place: usize, edges: &Steps) -> Targets
-    ensures { places result ≡ unless_pause (is_pause (call_at image.now place))
+    ensures places { places result ≡ unless_pause (is_pause (call_at image.now place))
         (option_to_list (target_in edges.now.jump) ++ option_to_list (target_in edges.now.next)) }
+    ensures packed { IsPacked (Some result) }
 {
     if is_pause(image, place) {
         return Targets::NONE;
     }
-    Targets {
-        jump: target_of(&edges.jump),
-        next: target_of(&edges.next),
-    }
+    Targets::packed(target_of(&edges.jump), target_of(&edges.next))
 }
 
 /// What is known where an instruction stands, on the way through the code from its first to its last.
@@ -113,6 +112,7 @@ impl Flow {
     fn look_there(&mut self, bounds: &Bounds, image: &Image, found: &Found, place: usize) -> Targets
         requires { RoundAlike bounds.now (bounds_of image.now.code) }
         ensures places { places result ≡ leads_by image.now place (Some self.old.state) }
+        ensures packed { IsPacked (Some result) }
         ensures flow { flow_in self.new.is_there self.new.state
             ≡ inner_of found.now.stretches.numbers (rule image.now place self.old.state) }
     {
@@ -133,6 +133,7 @@ impl Flow {
         requires { RoundAlike bounds.now (bounds_of image.now.code) }
         ensures places { places result
             ≡ leads_by image.now place (flow_in self.old.is_there self.old.state) }
+        ensures packed { IsPacked (Some result) }
         ensures flow { flow_in self.new.is_there self.new.state ≡ passed_on image.now
             found.now.stretches.numbers place (flow_in self.old.is_there self.old.state) }
     {
@@ -152,8 +153,9 @@ pub(crate) fn targets_of(
     found: &Found,
 ) -> Result<Vec<Targets>, AllocError>
     requires { RoundAlike bounds.now (bounds_of image.now.code) }
-    ensures { IfOk result (λ targets. AreTargets image.now
+    ensures edges { IfOk result (λ targets. AreTargets image.now
         (states_of image.now found.now.stretches.numbers found.now.states.items) targets.items) }
+    ensures nested { IfOk result (λ targets. IsNested (marks_of image.now.code) targets.items) }
 {
     let mut targets = vec![in alloc; Targets::NONE; image.len()]?;
     let mut flow = Flow {

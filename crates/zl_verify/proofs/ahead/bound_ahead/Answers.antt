@@ -1,11 +1,10 @@
-use Rattle.zl_verify.proofs.Common.{ap, sym, ◌+◌, ◌∙◌}
-use Rattle.zl_verify.proofs.LookingAhead.{closed_ahead, bounds_all}
+use Rattle.std.proofs.lemmas.Result.{IfOk-weaker}
+use Rattle.zl_verify.proofs.LookingAhead.{bounds_all}
 use Rattle.zl_verify.proofs.ahead.bound_ahead.Goals as goal
 
-pub numbers-requires : goal.numbers-requires
-numbers-requires c = rw c.deref.ensures.value (closed_ahead _ _ c.in_ok-targets.ensures)
+pub bound_of-requires : goal.bound_of-requires
+bound_of-requires c = rw c.deref.ensures.value (c.in-Ok.ensures {u = tt}).nested
 
-pub returns-in-None : goal.returns-in-None
-returns-in-None c =
-    bounds_all _ _ _ _ (ap (λ n. n + 1) c.budget-most.ensures.value) c.in_ok-targets.ensures (rw c.deref.ensures.value at c.in_ok-steps.ensures)
-    (sym (rw c.deref-2.ensures.value at c.first_over.ensures) ∙ c.in-None.is)
+pub returns : goal.returns
+returns c =
+    IfOk-weaker c.bound_of.result _ _ (λ steps b. bounds_all _ _ _ (c.in-Ok.ensures {u = tt}).ahead b) (rw c.deref.ensures.value at c.bound_of.ensures.bound)

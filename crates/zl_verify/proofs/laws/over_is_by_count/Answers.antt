@@ -6,4 +6,4 @@ pub returns-clause-leads_on : goal.returns-clause-leads_on
 returns-clause-leads_on c = λ i n s es goes holds. leads_on i n s es goes holds
 
 pub returns-clause-same : goal.returns-clause-same
-returns-clause-same c = λ i t n typing. over_counted i t n typing
+returns-clause-same c = λ i t n range typing. over_counted i range t n typing

@@ -1,5 +1,4 @@
-use Rattle.zl_verify.proofs.Leading.{closed_targets}
 use Rattle.zl_verify.proofs.way.way_in.Goals as goal
 
-pub numbers-requires : goal.numbers-requires
-numbers-requires c = rw c.deref.ensures.value (closed_targets _ _ _ (c.in-Ok.ensures {u = tt}) c.requires.typing.typing)
+pub longest_ways-requires : goal.longest_ways-requires
+longest_ways-requires c = rw c.deref.ensures.value (c.in-Ok.ensures {u = tt}).nested

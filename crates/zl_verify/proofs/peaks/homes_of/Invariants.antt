@@ -1,0 +1,6 @@
+use Rattle.zl_verify.proofs.Common.{marks_of}
+use Rattle.zl_verify.specs.Peaks.{AreHomes}
+use Rattle.zl_verify.proofs.peaks.homes_of.Given as goal
+
+abbrev pub invariant-loop-place : goal.invariant-loop-place
+invariant-loop-place l = AreHomes (marks_of l.image.code) l.homes.items l.place

@@ -25,19 +25,21 @@ pub use Rattle.std.specs.Option.{is_none, option_copied, unwrap_or}
 pub use Rattle.std.specs.Prelude.{MatchResult, nat_eq}
 pub use Rattle.std.specs.Result.{IsErr, is_err, result_err, result_ok}
 pub use Rattle.zl_asm.specs.Canonical.{EachTextDenotes, aims, aims_at, code_lines, directive_lines, hex_digit, hex_text, instr_text, is_target, kind_text}
-pub use Rattle.zl_asm.specs.Canonical.{label_lines, label_text, operand_texts, register_text, row_text}
+pub use Rattle.zl_asm.specs.Canonical.{behind, label_lines, label_text, operand_texts, register_text, row_at, row_text, version_lines}
 unfoldable pub use Rattle.zl_asm.specs.Canonical.{code_lines_from, joined, tail_texts, text_of}
 pub use Rattle.zl_asm.specs.Denotes.{Denotes, EachTextGivesBytes, NoTextDenotesTwo, fields_of, listing_bytes}
-pub use Rattle.zl_asm.specs.Draft.{Gives, GivesNone, Held, Holds, IsGiven, IsHeldOf, Pushes, Reads, ReadsAll, Refuses, Stops, held_by, is_directive_in_range}
-pub use Rattle.zl_asm.specs.Draft.{labels_shown, line_said, sources_shown}
+pub use Rattle.zl_asm.specs.Draft.{Gives, GivesNone, Held, Holds, IsCodeOf, IsGiven, IsHeldOf, Pushes, Reads, ReadsAll, Refuses, Resolves, Stops, held_by}
+pub use Rattle.zl_asm.specs.Draft.{is_directive_in_range, labels_shown, line_said, sources_shown}
 pub use Rattle.zl_asm.specs.Kept.{fits, is_fine, is_kept_in_range, kept_value}
-pub use Rattle.zl_asm.specs.Lines.{Blank, Code, Declares, Label, Line, Source, Tail, alone, if_fits, instruction_of, need_of, number_within, onto_all}
-pub use Rattle.zl_asm.specs.Lines.{places_of, point_line, registers_of, slot_array_with, source_with, start_with, tail, tail_to, then_with}
+pub use Rattle.zl_asm.specs.Lines.{Blank, Code, Declares, Label, Line, Source, Tail, alone, if_fits, instruction_of, need_of, number_within, onto_all, row_by}
+pub use Rattle.zl_asm.specs.Lines.{places_of, point_line, registers_of, slot_array_with, source_with, start_with, tail, tail_to, then_with, untargeted}
+pub use Rattle.zl_asm.specs.Lines.{version_with, written}
 unfoldable pub use Rattle.zl_asm.specs.Lines.{all_of, directive_of, kind_of, label_of, line_of, operands_after, operands_of, source_of, tail_of, unknown_of}
-pub use Rattle.zl_asm.specs.Listing.{Listing, budget_in, declares, given, is_body, is_listing, lines_said, listing_with, mark_in, memory_in, need_in}
-pub use Rattle.zl_asm.specs.Listing.{position_of, resolved, slots_in, source_in, start_in, with_target}
-unfoldable pub use Rattle.zl_asm.specs.Listing.{directives_first, labels_from, listing_from, listing_of, names_once}
-pub use Rattle.zl_asm.specs.Pieces.{TargetsAre, behind, directives_text, ended, fields_text, line_text, need_text, needs_text, slot_array_text, start_text}
+pub use Rattle.zl_asm.specs.Listing.{Listing, are_in_order, budget_in, declares, given, gives_version, is_body, is_listing, led_to, lines_said, listing_with}
+pub use Rattle.zl_asm.specs.Listing.{mark_in, nested, paired, partner_by}
+pub use Rattle.zl_asm.specs.Listing.{memory_in, need_in, position_of, resolved, says, slots_in, source_in, start_in, version_behind, version_in, with_target}
+unfoldable pub use Rattle.zl_asm.specs.Listing.{end_among, labels_from, lines_from, listing_from, listing_of, names_once, none_behind, paired_from}
+pub use Rattle.zl_asm.specs.Pieces.{TargetsAre, directives_text, ended, fields_text, line_text, need_text, needs_text, slot_array_text, start_text}
 pub use Rattle.zl_asm.specs.Values.{line_value, source_value, tail_value, texts}
 pub use Rattle.zl_asm.specs.Words.{byte_before, comma, digit_value, is_ascii, is_digit, is_name_byte, is_number, lines_of, number_in, value_of, word_before}
 pub use Rattle.zl_asm.specs.Words.{words_of}
@@ -48,10 +50,11 @@ pub use Rattle.zl_code.proofs.ImageBytes.{IsBytes, bytes_of-number_at, list_all-
 pub use Rattle.zl_code.proofs.ImageNeeds.{needs_fit, needs_named-needs}
 pub use Rattle.zl_code.proofs.ImageRanges.{Ranges, ranges}
 pub use Rattle.zl_code.specs.Image.{can_be_needed, need_if}
-pub use Rattle.zl_code.specs.Instructions.{field_of, layout, row_among, row_value, rows}
-pub use Rattle.zl_code.specs.Spells.{are_places, is_ending_clear, is_packed, names_registers, registers_at, rights_allowed}
+pub use Rattle.zl_code.specs.Instructions.{field_of, is_known, is_new, layout, layout_at, row_among, row_value, rows}
+pub use Rattle.zl_code.specs.Spells.{are_places, is_ending_clear, is_packed, keep_blocks, names_registers, registers_at, rights_allowed}
 pub use Rattle.zl_code.specs.declared.image.SlotArray.{SlotArray}
 pub use Rattle.zl_code.specs.declared.image.Start.{Start}
+pub use Rattle.zl_code.specs.declared.image.Version.{Version}
 pub use Rattle.zl_code.specs.declared.instr.Instr.{Instr}
 pub use Rattle.zl_code.specs.declared.layout.Ending.{Ending}
 pub use Rattle.zl_rights.specs.declared.kind.Kind.{Kind}

@@ -1,17 +1,25 @@
 -- From what a draft holds to the fields of an image.
-use Rattle.zl_asm.proofs.Common.{Bool, Gives, GivesNone, Held, Image, IsBytes, List, Listing, None, Option, Pushes, Some, Source, SourceLine, [], all_of}
-use Rattle.zl_asm.proofs.Common.{and_from, ap, append_assoc, arith, at_drop_more, budget_in, bytes_of, bytes_of-number_at, cond, drop, false, fields_of}
-use Rattle.zl_asm.proofs.Common.{flat_map, get_or, get_or-map, given, if_fits, instr_bytes, instr_fault, is_fine, is_in_range, is_listing, is_some, kept_value}
-use Rattle.zl_asm.proofs.Common.{labels_from, labels_shown, le-leb, length, length-append, length-map, list_all, listing_from, lookup, map, map-append, mark_in}
-use Rattle.zl_asm.proofs.Common.{memory_in, need_in, needs_named, not, number_at, option_map, ranges, refl, registers_at, resolved, slice_index, slots_in}
-use Rattle.zl_asm.proofs.Common.{source_in, sources_shown, start_in, sym, take, take-add, take_all, take_more, true, with_target, ℕ, ◌++◌, ◌+◌, ◌<◌, ◌∙◌, ◌∷◌}
-use Rattle.zl_asm.proofs.Common.{◌≡◌, ◌≤◌}
+use Rattle.zl_asm.proofs.Common.{Bool, Gives, GivesNone, Held, Image, Instr, IsBytes, IsCodeOf, IsHeldOf, Line, List, Listing, None, Option, Pushes, Resolves}
+use Rattle.zl_asm.proofs.Common.{Some, Source, SourceLine, [], all_of, and_from, ap, append_assoc, are_in_order, arith, at_drop_more, budget_in, bytes_of}
+use Rattle.zl_asm.proofs.Common.{bytes_of-number_at, cond, drop, false, fields_of, flat_map, get_or, get_or-map, given, if_fits, instr_bytes, is_fine}
+use Rattle.zl_asm.proofs.Common.{is_in_range, is_instr_in_range, is_listing, keep_blocks, kept_value, labels_from, labels_shown, le-leb, length, length-append}
+use Rattle.zl_asm.proofs.Common.{length-map, length-take, list_all, list_all-append, listing_from, listing_with, lookup, map, map-append, mark_in, memory_in}
+use Rattle.zl_asm.proofs.Common.{names_once}
+use Rattle.zl_asm.proofs.Common.{nested, number_at, option_map, ranges, refl, registers_at, resolved, slice_index, source_in, sources_shown, sym, take}
+use Rattle.zl_asm.proofs.Common.{take-add}
+use Rattle.zl_asm.proofs.Common.{take_all, take_more, then_with, true, with_target, ℕ, ◌&&◌, ◌++◌, ◌+◌, ◌<◌, ◌∙◌, ◌∷◌, ◌≡◌, ◌≤◌}
 use denote.Ref.{Bor}
+use Rattle.std.proofs.lemmas.Bool.{cond_both}
 use Rattle.std.proofs.lemmas.List.{take-append-drop}
+use Rattle.zl_code.proofs.BlockBytes.{blocks_again}
+use Rattle.zl_code.specs.Blocks.{are_blocks, marks_of}
+use Rattle.zl_code.specs.Jumps.{jump_of}
+use Rattle.zl_asm.specs.Paired.{joined_code}
+use Rattle.zl_asm.proofs.PairedCode.{joined_in_range, paired_bytes}
 use Rattle.zl_asm.proofs.RoundWhole.{all_instr, no_faults}
 use Rattle.zl_asm.proofs.Labels.{same, lookup_is}
 use Rattle.zl_asm.proofs.DraftHolds.{given_is}
-use Rattle.zl_asm.proofs.ListingRefused.{all_of-more, listing_of_fields, none_by_fields, not_listing}
+use Rattle.zl_asm.proofs.ListingRefused.{all_of-length, all_of-more, none_by_fields, not_listing}
 
 -- ---- the target of a source
 
@@ -31,30 +39,36 @@ retargeted (b ∷ bs) target len h =
 
 -- ---- the instructions so far
 
--- the instructions are those of the first sources
-pub record Resolves (h : Held) (i : Image) : Type 0 where
-  pub code : all_of (resolved h.labels) (take (length i.code) h.sources) ≡ Some (map instr_bytes i.code)
-  pub same : i ≡ record h.image { code = i.code }
-
-pub resolves_none : (h : Held) → h.image.code ≡ [] → Resolves h h.image
+pub resolves_none : (h : Held) → Resolves h []
 unfolding all_of
-resolves_none h e = record { code = rw e refl; same = refl }
+resolves_none h = record { bytes = refl; in_range = refl }
 
-pub resolves_one : (h : Held) (i new : Image) (s : Source) → Resolves h i → length i.code < length h.sources → s ≡ get_or h.sources (length i.code) s
-    → Pushes i (resolved h.labels s) new → Resolves h new
-resolves_one h i new s r below at p =
-    let code : new.code ≡ i.code ++ p.0 ∷ [] = ap (λ (x : Image). x.code) p.2 in
-    let count : length new.code ≡ length i.code + 1 = omega (arith, ap length code, length-append i.code (p.0 ∷ [])) in
-    let shown : map instr_bytes new.code ≡ map instr_bytes i.code ++ instr_bytes p.0 ∷ [] =
-    ap (map instr_bytes) code ∙ map-append instr_bytes i.code (p.0 ∷ []) in
-    let front : take (length new.code) h.sources ≡ take (length i.code) h.sources ++ s ∷ [] =
-    ap (λ (n : ℕ). take n h.sources) count ∙ take_more h.sources (length i.code) s below
-    ∙ ap (λ (x : Source). take (length i.code) h.sources ++ x ∷ []) (sym at) in
+pub resolves_one : (h : Held) (code new : List Instr) (s : Source) → Resolves h code → length code < length h.sources → s ≡ get_or h.sources (length code) s
+    → Pushes h.image.version h.image.raw code (resolved h.labels s) new → Resolves h new
+resolves_one h code new s r below at p =
+    let count : length new ≡ length code + 1 = omega (arith, ap length p.3, length-append code (p.0 ∷ [])) in
+    let shown : map instr_bytes new ≡ map instr_bytes code ++ instr_bytes p.0 ∷ [] =
+    ap (map instr_bytes) p.3 ∙ map-append instr_bytes code (p.0 ∷ []) in
+    let front : take (length new) h.sources ≡ take (length code) h.sources ++ s ∷ [] =
+    ap (λ (n : ℕ). take n h.sources) count ∙ take_more h.sources (length code) s below
+    ∙ ap (λ (x : Source). take (length code) h.sources ++ x ∷ []) (sym at) in
     record {
-      code = ap (all_of (resolved h.labels)) front
-          ∙ all_of-more (resolved h.labels) (take (length i.code) h.sources) (map instr_bytes i.code) s (instr_bytes p.0) r.code p.1 ∙ ap Some (sym shown);
-      same = p.2 ∙ (λ j. record (r.same j) { code = sym code j });
+      bytes = ap (all_of (resolved h.labels)) front
+          ∙ all_of-more (resolved h.labels) (take (length code) h.sources) (map instr_bytes code) s (instr_bytes p.0) r.bytes p.1 ∙ ap Some (sym shown);
+      in_range = ap (list_all (is_instr_in_range h.image.version h.image.raw)) p.3
+          ∙ list_all-append (is_instr_in_range h.image.version h.image.raw) code (p.0 ∷ []) ∙ and_from _ _ r.in_range (and_from _ _ p.2 refl);
     }
+
+pub resolves_few : (h : Held) (code : List Instr) → Resolves h code → length code ≤ length h.sources
+resolves_few h code r =
+    let made = all_of-length (resolved h.labels) (take (length code) h.sources) (map instr_bytes code) r.bytes in
+    omega (arith, length-map code instr_bytes, length-take (length code) h.sources)
+
+pub resolves_all : (h : Held) (code : List Instr) → Resolves h code → length h.sources ≤ length code → IsCodeOf h code
+resolves_all h code r all = record {
+  bytes = ap (all_of (resolved h.labels)) (sym (take_all (length code) h.sources all)) ∙ r.bytes;
+  in_range = r.in_range;
+}
 
 -- ---- sources that stop
 
@@ -64,53 +78,66 @@ split_at xs n s below at =
     sym (take-append-drop n xs) ∙ at_drop_more (λ (l : List Source). take n xs ++ l) xs n s below
     ∙ ap (λ (x : Source). take n xs ++ x ∷ drop (n + 1) xs) (sym at)
 
-pub none_unfit : (h : Held) (front rest : List Source) (s : Source) → h.sources ≡ front ++ s ∷ rest → is_fine h.image.raw (resolved h.labels s) ≡ false
+pub none_unfit : (h : Held) (front rest : List Source) (s : Source) → h.sources ≡ front ++ s ∷ rest
+    → is_fine h.image.version h.image.raw (resolved h.labels s) ≡ false
     → GivesNone h
 none_unfit h front rest s split unfit = λ said k. none_by_fields said (λ raw memory budget code m n b c.
     let mark : given (flat_map mark_in said) false ≡ Some h.image.raw = given_is h.image.raw h.image.raw false _ k.mark in
     let same : raw ≡ h.image.raw = cc in
     let whole : all_of (resolved h.labels) (front ++ s ∷ rest) ≡ Some code =
     ap (all_of (resolved h.labels)) (sym split) ∙ (λ j. all_of (resolved (k.labels j)) (k.sources j)) ∙ c in
-    not_listing (resolved h.labels) front rest s said raw memory budget code whole (rw same unfit))
+    not_listing (resolved h.labels) front rest s said raw memory budget code whole (rw (same, ← k.version) unfit))
 
 -- ---- the image
 
-fits_as : (x y : Listing) → x ≡ y → is_listing y ≡ true → if_fits is_listing (Some x) ≡ Some y
-fits_as x y e t = ap (λ (z : Listing). if_fits is_listing (Some z)) e ∙ ap (λ (b : Bool). cond b (Some y) None) t
+-- the fields of a draft with this code
+abbrev draft_fields : Held → List Instr → Listing
+draft_fields h code = record (fields_of h.image) { code = map instr_bytes code }
 
-pub gives_image : (h : Held) (i : Image) → Resolves h i → length h.sources ≤ length i.code → is_in_range i ≡ true → Gives h i
-unfolding listing_from
-gives_image h i r all in_range = λ said k.
+-- what the lines give, before the blocks of their code are paired
+given_fields : (h : Held) (code : List Instr) (said : List Line) → IsCodeOf h code → IsHeldOf said h
+    → listing_with said (given (flat_map mark_in said) false) (given (flat_map memory_in said) 0) (given (flat_map budget_in said) 1)
+    (all_of (resolved (labels_from 0 said)) (flat_map source_in said)) ≡ Some (draft_fields h code)
+given_fields h code said r k =
     let mark : given (flat_map mark_in said) false ≡ Some h.image.raw = given_is h.image.raw h.image.raw false _ k.mark in
     let memory : given (flat_map memory_in said) 0 ≡ Some h.image.memory = given_is h.has_memory h.image.memory 0 _ k.memory in
     let budget : given (flat_map budget_in said) 1 ≡ Some h.image.budget = given_is h.has_budget h.image.budget 1 _ k.budget in
-    let whole : take (length i.code) h.sources ≡ h.sources = take_all (length i.code) h.sources all in
-    let code : all_of (resolved (labels_from 0 said)) (flat_map source_in said) ≡ Some (map instr_bytes i.code) =
-    (λ j. all_of (resolved (sym k.labels j)) (sym k.sources j)) ∙ ap (all_of (resolved h.labels)) (sym whole) ∙ r.code in
-    let range = ranges i in_range in
-    let raw : i.raw ≡ h.image.raw = ap (λ (x : Image). x.raw) r.same in
-    let memory_is : i.memory ≡ h.image.memory = ap (λ (x : Image). x.memory) r.same in
-    let budget_is : i.budget ≡ h.image.budget = ap (λ (x : Image). x.budget) r.same in
-    let needs : needs_named (flat_map need_in said) ≡ i.needs = sym k.needs ∙ sym (ap (λ (x : Image). x.needs) r.same) in
-    let starts : flat_map start_in said ≡ i.starts = sym k.starts ∙ sym (ap (λ (x : Image). x.starts) r.same) in
-    let slots : flat_map slots_in said ≡ i.slots = sym k.slots ∙ sym (ap (λ (x : Image). x.slots) r.same) in
-    let count : length (map instr_bytes i.code) ≤ 4096 = omega (arith, length-map i.code instr_bytes, range.count) in
-    let fine : list_all (λ bytes. not (is_some (instr_fault i.raw bytes))) (map instr_bytes i.code) ≡ true =
-    no_faults i.raw (map instr_bytes i.code) (all_instr i.raw i.code range.code) in
-    let sound : is_listing (fields_of i) ≡ true =
+    let whole : all_of (resolved (labels_from 0 said)) (flat_map source_in said) ≡ Some (map instr_bytes code) =
+    (λ j. all_of (resolved (sym k.labels j)) (sym k.sources j)) ∙ r.bytes in
+    (λ j. listing_with said (mark j) (memory j) (budget j) (whole j))
+    ∙ (λ j. Some (record (draft_fields h code) { version = sym k.version j; needs = sym k.needs j; starts = sym k.starts j; slots = sym k.slots j }))
+
+-- and with its blocks
+nested_is : (h : Held) (code : List Instr) → IsCodeOf h code → length code ≤ 4096 → nested (draft_fields h code)
+    ≡ cond (are_blocks (marks_of (joined_code code)) (map jump_of (joined_code code))) (Some (draft_fields h (joined_code code))) None
+nested_is h code r few =
+    let v = h.image.version in
+    let bytes = paired_bytes v h.image.raw code r.in_range in
+    ap (λ (c : List (List ℕ)). if_fits (λ m. keep_blocks m.version m.code) (Some (record (draft_fields h code) { code = c }))) bytes
+    ∙ ap (λ (b : Bool). cond b (Some (draft_fields h (joined_code code))) None) (blocks_again v h.image.raw (joined_code code)
+    (joined_in_range v h.image.raw code few r.in_range))
+
+pub gives_none : (h : Held) (code : List Instr) → IsCodeOf h code → length code ≤ 4096
+    → are_blocks (marks_of (joined_code code)) (map jump_of (joined_code code)) ≡ false → GivesNone h
+unfolding listing_from
+gives_none h code r few broken = λ said k.
+    let none : nested (draft_fields h code) ≡ None = nested_is h code r few ∙ rw broken refl in
+    rw (given_fields h code said r k)
+    (cond_both (are_in_order said && names_once (labels_from 0 said)) _ None (λ o. o ≡ None)
+    (λ _. cond_both (is_listing (draft_fields h code)) (Some (draft_fields h code)) None (λ o. then_with o nested ≡ None) (λ _. none) (λ _. refl)) (λ _. refl))
+
+pub gives_image : (h : Held) (code : List Instr) (i : Image) → IsCodeOf h code → length code ≤ 4096
+    → are_blocks (marks_of (joined_code code)) (map jump_of (joined_code code)) ≡ true → i ≡ record h.image { code = joined_code code }
+    → is_in_range i ≡ true → Gives h i
+unfolding listing_from
+gives_image h code i r few keeps same in_range = λ said k.
+    let v = h.image.version in
+    let range = ranges (record h.image { code = joined_code code }) (sym (ap is_in_range same) ∙ in_range) in
+    let count : length (map instr_bytes code) ≤ 4096 = omega (arith, length-map code instr_bytes) in
+    let fine = no_faults v h.image.raw (map instr_bytes code) (all_instr v h.image.raw code r.in_range) in
+    let sound : is_listing (draft_fields h code) ≡ true =
     and_from _ _ (le-leb _ 7 range.starts_count) (and_from _ _ (le-leb _ 8 range.slots_count) (and_from _ _ (le-leb _ 4096 count) fine)) in
-    let same : listing_of_fields said h.image.raw h.image.memory h.image.budget (map instr_bytes i.code) ≡ fields_of i =
-    λ j. record {
-      raw = sym raw j;
-      memory = sym memory_is j;
-      budget = sym budget_is j;
-      needs = needs j;
-      starts = starts j;
-      slots = slots j;
-      code = map instr_bytes i.code;
-    } in
-    rw (k.order, k.once, mark, memory, budget, code)
-    (fits_as (listing_of_fields said h.image.raw h.image.memory h.image.budget (map instr_bytes i.code)) (fields_of i) same sound)
+    rw (k.order, k.once, given_fields h code said r k, sound) (nested_is h code r few ∙ rw keeps (ap (λ (x : Image). Some (fields_of x)) (sym same)))
 
 -- ---- the source of a number
 
@@ -126,16 +153,16 @@ is_at h ss n e shown below same = record {
       ∙ ap (λ (l : List Source). get_or l n (kept_value e.kept)) (sym shown);
 }
 
-pub unfit_at : (h : Held) (ss : List SourceLine) (n : ℕ) (e : SourceLine) (i : Image) → h.sources ≡ sources_shown ss → n < length ss → e ≡ get_or ss n e
-    → Resolves h i → is_fine i.raw (resolved h.labels (kept_value e.kept)) ≡ false → GivesNone h
-unfit_at h ss n e i shown below same r unfit =
+pub unfit_at : (h : Held) (ss : List SourceLine) (n : ℕ) (e : SourceLine) → h.sources ≡ sources_shown ss → n < length ss → e ≡ get_or ss n e
+    → is_fine h.image.version h.image.raw (resolved h.labels (kept_value e.kept)) ≡ false → GivesNone h
+unfit_at h ss n e shown below same unfit =
     let at = is_at h ss n e shown below same in
-    none_unfit h _ _ (kept_value e.kept) (split_at h.sources n (kept_value e.kept) at.below at.same)
-    (ap (λ (x : Image). is_fine x.raw (resolved h.labels (kept_value e.kept))) (sym r.same) ∙ unfit)
+    none_unfit h _ _ (kept_value e.kept) (split_at h.sources n (kept_value e.kept) at.below at.same) unfit
 
-pub resolves_at : (h : Held) (ss : List SourceLine) (n : ℕ) (e : SourceLine) (i new : Image) → h.sources ≡ sources_shown ss → n < length ss
-    → e ≡ get_or ss n e → n ≡ length i.code → Resolves h i → Pushes i (resolved h.labels (kept_value e.kept)) new → Resolves h new
-resolves_at h ss n e i new shown below same count r p =
+pub resolves_at : (h : Held) (ss : List SourceLine) (n : ℕ) (e : SourceLine) (code new : List Instr) → h.sources ≡ sources_shown ss → n < length ss
+    → e ≡ get_or ss n e → n ≡ length code → Resolves h code
+    → Pushes h.image.version h.image.raw code (resolved h.labels (kept_value e.kept)) new → Resolves h new
+resolves_at h ss n e code new shown below same count r p =
     let at = is_at h ss n e shown below same in
-    let under : length i.code < length h.sources = omega (arith, at.below) in
-    resolves_one h i new (kept_value e.kept) r under (at.same ∙ ap (λ (k : ℕ). get_or h.sources k (kept_value e.kept)) count) p
+    let under : length code < length h.sources = omega (arith, at.below) in
+    resolves_one h code new (kept_value e.kept) r under (at.same ∙ ap (λ (k : ℕ). get_or h.sources k (kept_value e.kept)) count) p

@@ -1,13 +1,16 @@
 -- What a draft holds after one line more.
 use Rattle.zl_asm.proofs.Common.{Blank, Bool, Code, Condition, Declares, Directive, Held, Holds, Image, IsGiven, IsHeldOf, Label, Line, List, None, SlotArray}
-use Rattle.zl_asm.proofs.Common.{Some, Source, Start, [], ap, append-nil, arith, budget_in, can_be_needed, cond, condition_number, declares, directives_first}
-use Rattle.zl_asm.proofs.Common.{eq-eqb, eqb-true, false, filter, flat_map, flat_map-append, given, is_among, is_body, labels_from, length, list_all}
-use Rattle.zl_asm.proofs.Common.{list_all-append, list_any, list_any-append, mark_in, memory_in, names_once, need_in, needs_named, not, or_left, or_right}
-use Rattle.zl_asm.proofs.Common.{position_of, refl, slots_in, source_in, start_in, subst, sym, true, true≢false, ℕ, ◌&&◌, ◌++◌, ◌+◌, ◌==◌, ◌||◌, ◌∙◌, ◌∷◌, ◌≡◌}
+use Rattle.zl_asm.proofs.Common.{Some, Source, Start, Version, [], and_from, and_parts, ap, append-nil, arith, budget_in, can_be_needed, cond, condition_number}
+use Rattle.zl_asm.proofs.Common.{declares, eq-eqb, eqb-true, false, filter, flat_map, flat_map-append, given, gives_version, if◌then◌else◌, is_among, is_body}
+use Rattle.zl_asm.proofs.Common.{labels_from, length, list_all, list_all-append, list_any, list_any-append, mark_in, memory_in, names_once, need_in}
+use Rattle.zl_asm.proofs.Common.{needs_named, none_behind, not, or_left, or_right, position_of, refl, says, slots_in, source_in, start_in, subst, sym, true}
+use Rattle.zl_asm.proofs.Common.{true≢false, version_in, ℕ, ◌&&◌, ◌++◌, ◌+◌, ◌==◌, ◌||◌, ◌∙◌, ◌∷◌, ◌≡◌}
 use Rattle.zl_asm.specs.declared.directive.Directive.TheVariants as directive
 use Rattle.zl_asm.proofs.Labels.{labels_from-append, once-more}
 use Rattle.std.proofs.lemmas.Bool.{cond_both, and_right}
-use Rattle.std.proofs.Math.Bool.{or-false, and-true, or_comm}
+use Rattle.zl_code.specs.Image.{blank_image}
+use Rattle.zl_code.specs.declared.image.Version.TheVariants as version
+use Rattle.std.proofs.Math.Bool.{or-false, and-false, and-true, or_comm}
 
 -- ---- what one line more gives
 
@@ -19,35 +22,49 @@ added f said line x e = flat_map-append f said (line ∷ []) ∙ ap (λ (xs : Li
 
 -- ---- the order of lines
 
+abbrev version_if : Bool → Version
+version_if b = if b then version.One else version.Two
+
 chosen : (b : Bool) (x y v w : Bool) → (x ≡ true → v ≡ true) → (y ≡ true → w ≡ true) → cond b x y ≡ true → cond b v w ≡ true
 chosen true x y v w f g e = f e
 chosen false x y v w f g e = g e
 
--- a line that declares nothing can stand anywhere
-order-more : (said : List Line) (line : Line) → declares line ≡ false → directives_first said ≡ true → directives_first (said ++ line ∷ []) ≡ true
-unfolding directives_first
-order-more [] line e h = cond_both (is_body line) true true (λ b. b ≡ true) (λ _. refl) (λ _. refl)
-order-more (x ∷ said) line e h =
-    chosen (is_body x) (list_all (λ l. not (declares l)) said) (directives_first said) _ _
-    (λ k. list_all-append (λ l. not (declares l)) said (line ∷ []) ∙ (λ i. k i && (not (e i) && true)))
-    (order-more said line e) h
+-- a line that doesn't pass the second test can stand anywhere
+order-more : (first later : Line → Bool) (said : List Line) (line : Line) → later line ≡ false → none_behind first later said ≡ true
+    → none_behind first later (said ++ line ∷ []) ≡ true
+unfolding none_behind
+order-more first later [] line e h = cond_both (first line) true true (λ b. b ≡ true) (λ _. refl) (λ _. refl)
+order-more first later (x ∷ said) line e h =
+    chosen (first x) (list_all (λ l. not (later l)) said) (none_behind first later said) _ _
+    (λ k. list_all-append (λ l. not (later l)) said (line ∷ []) ∙ (λ i. k i && (not (e i) && true)))
+    (order-more first later said line e) h
 
--- a directive behind directives
-order-declared : (said : List Line) (d : Directive) → list_any is_body said ≡ false → directives_first (said ++ Declares d ∷ []) ≡ true
-unfolding directives_first
-order-declared [] d e = refl
-order-declared (x ∷ said) d e = by (is_body x) (order-declared said d) e
+-- and any line where none passes the first
+order-first : (first later : Line → Bool) (said : List Line) (line : Line) → list_any first said ≡ false → none_behind first later (said ++ line ∷ []) ≡ true
+unfolding none_behind
+order-first first later [] line e = cond_both (first line) true true (λ b. b ≡ true) (λ _. refl) (λ _. refl)
+order-first first later (x ∷ said) line e = by (first x) (order-first first later said line) e
   where
-    by : (b : Bool) → (list_any is_body said ≡ false → directives_first (said ++ Declares d ∷ []) ≡ true) → (b || list_any is_body said) ≡ false
-        → cond b (list_all (λ l. not (declares l)) (said ++ Declares d ∷ [])) (directives_first (said ++ Declares d ∷ [])) ≡ true
+    by : (b : Bool) → (list_any first said ≡ false → none_behind first later (said ++ line ∷ []) ≡ true) → (b || list_any first said) ≡ false
+        → cond b (list_all (λ l. not (later l)) (said ++ line ∷ [])) (none_behind first later (said ++ line ∷ [])) ≡ true
     by true more h = absurd (true≢false h)
     by false more h = more h
 
-no_body-more : (said : List Line) (line : Line) → is_body line ≡ false → list_any is_body (said ++ line ∷ []) ≡ list_any is_body said
-no_body-more said line e = list_any-append is_body said (line ∷ []) ∙ (λ i. list_any is_body said || (e i || false)) ∙ or-false _
+none-more : (test : Line → Bool) (said : List Line) (line : Line) → test line ≡ false → list_any test (said ++ line ∷ []) ≡ list_any test said
+none-more test said line e = list_any-append test said (line ∷ []) ∙ (λ i. list_any test said || (e i || false)) ∙ or-false _
 
-body-more : (said : List Line) (line : Line) → is_body line ≡ true → list_any is_body (said ++ line ∷ []) ≡ true
-body-more said line e = list_any-append is_body said (line ∷ []) ∙ or_right _ _ (or_left _ _ e)
+one-more : (test : Line → Bool) (said : List Line) (line : Line) → test line ≡ true → list_any test (said ++ line ∷ []) ≡ true
+one-more test said line e = list_any-append test said (line ∷ []) ∙ or_right _ _ (or_left _ _ e)
+
+-- the version is that of the lines, of which only the first that says something gives it
+abbrev IsVersioned : Version → List Line → Type 0
+IsVersioned v lines = (none_behind says gives_version lines ≡ true) × (v ≡ version_in lines)
+
+unversioned : (d : Held) (said : List Line) (line : Line) → gives_version line ≡ false → IsHeldOf said d → IsVersioned d.image.version (said ++ line ∷ [])
+unversioned d said line e h = (
+  order-more says gives_version said line e (and_parts _ _ h.order).0,
+  h.version ∙ ap version_if (sym (list_all-append _ said (line ∷ []) ∙ (λ i. list_all (λ l. not (gives_version l)) said && (not (e i) && true)) ∙ and-true _)),
+)
 
 -- ---- labels
 
@@ -129,16 +146,18 @@ first_given f said line x none e = added f said line x e ∙ ap (λ (l : List _)
 
 -- ---- all that is held
 
--- the fields of an image that the lines give
+-- the fields of an image that the lines give, but for the version
 abbrev AreGiven : Held → List Line → Type 0
 AreGiven d lines = IsGiven d.image.raw d.image.raw false (flat_map mark_in lines) × IsGiven d.has_memory d.image.memory 0 (flat_map memory_in lines)
     × IsGiven d.has_budget d.image.budget 1 (flat_map budget_in lines) × (d.image.needs ≡ needs_named (flat_map need_in lines))
     × (d.image.starts ≡ flat_map start_in lines) × (d.image.slots ≡ flat_map slots_in lines)
 
-held : (lines : List Line) (d : Held) → directives_first lines ≡ true → d.has_body ≡ list_any is_body lines → AreGiven d lines
-    → d.labels ≡ labels_from 0 lines → names_once (labels_from 0 lines) ≡ true → d.sources ≡ flat_map source_in lines → IsHeldOf lines d
-held lines d o b g l u s =
-    record { order = o; body = b; mark = g.0; memory = g.1; budget = g.2; needs = g.3; starts = g.4; slots = g.5; labels = l; once = u; sources = s }
+held : (lines : List Line) (d : Held) → IsVersioned d.image.version lines → none_behind is_body declares lines ≡ true
+    → d.has_begun ≡ list_any says lines → d.has_body ≡ list_any is_body lines → AreGiven d lines → d.labels ≡ labels_from 0 lines
+    → names_once (labels_from 0 lines) ≡ true → d.sources ≡ flat_map source_in lines → IsHeldOf lines d
+held lines d (first, v) o n b (m, y, t, e, a, i) l u s =
+    let o = and_from _ _ first o in
+    record { order = o; some = n; body = b; version = v; mark = m; memory = y; budget = t; needs = e; starts = a; slots = i; labels = l; once = u; sources = s }
 
 -- what is given stays behind a line that doesn't give it
 still : {X : Type 0} (f : Line → List X) (said : List Line) (line : Line) (has : Bool) (value usual : X) → f line ≡ []
@@ -167,90 +186,125 @@ unsaid d said line no_mark no_memory no_budget no_need no_start no_slots h = (
 
 -- a directive leaves all but the fields of the image
 declared : (d : Held) (x : Directive) (image : Image) (memory budget : Bool) (said : List Line) → IsHeldOf said d → d.has_body ≡ false
-    → IsGiven image.raw image.raw false (flat_map mark_in (said ++ Declares x ∷ []))
-    → IsGiven memory image.memory 0 (flat_map memory_in (said ++ Declares x ∷ []))
-    → IsGiven budget image.budget 1 (flat_map budget_in (said ++ Declares x ∷ []))
-    → image.needs ≡ needs_named (flat_map need_in (said ++ Declares x ∷ []))
-    → image.starts ≡ flat_map start_in (said ++ Declares x ∷ []) → image.slots ≡ flat_map slots_in (said ++ Declares x ∷ [])
-    → IsHeldOf (said ++ Declares x ∷ []) (record d { image = image; has_memory = memory; has_budget = budget })
-declared d x image memory budget said h first m n b c s a =
-    held _ _ (order-declared said x (sym h.body ∙ first)) (h.body ∙ sym (no_body-more said (Declares x) refl)) (m, n, b, c, s, a)
-    (h.labels ∙ sym (none_declared said x)) (ap names_once (none_declared said x) ∙ h.once) (listed source_in said (Declares x) refl h.sources)
+    → IsVersioned image.version (said ++ Declares x ∷ [])
+    → AreGiven (record d { image = image; has_memory = memory; has_budget = budget }) (said ++ Declares x ∷ [])
+    → IsHeldOf (said ++ Declares x ∷ []) (record d { image = image; has_memory = memory; has_budget = budget; has_begun = true })
+declared d x image memory budget said h first v g =
+    held _ _ v (order-first is_body declares said (Declares x) (sym h.body ∙ first)) (sym (one-more says said (Declares x) refl))
+    (h.body ∙ sym (none-more is_body said (Declares x) refl)) g (h.labels ∙ sym (none_declared said x)) (ap names_once (none_declared said x) ∙ h.once)
+    (listed source_in said (Declares x) refl h.sources)
 
 -- ---- one directive more
 
+pub version_held : (d : Held) (image : Image) → image ≡ record d.image { version = version.Two } → d.has_body ≡ false → d.has_begun ≡ false
+    → Holds d (Declares directive.VersionTwo) (record d { image = image; has_begun = true })
+version_held d image e first none =
+    subst (λ (im : Image). Holds d (Declares directive.VersionTwo) (record d { image = im; has_begun = true })) (sym e) (λ said h.
+    let x = Declares directive.VersionTwo in
+    let two : version.Two ≡ version_in (said ++ x ∷ []) = ap version_if (sym (list_all-append _ said (x ∷ []) ∙ and-false _)) in
+    declared d directive.VersionTwo _ _ _ said h first (order-first says gives_version said x (sym h.some ∙ none), two)
+    (unsaid d said x refl refl refl refl refl refl h))
+
 pub mark_held : (d : Held) (image : Image) → image ≡ record d.image { raw = true } → d.has_body ≡ false → d.image.raw ≡ false
-    → Holds d (Declares directive.Raw) (record d { image = image })
-mark_held d image e first none = subst (λ (im : Image). Holds d (Declares directive.Raw) (record d { image = im })) (sym e) (λ said h.
-    let x = Declares directive.Raw in declared d directive.Raw _ _ _ said h first
-    (first_given mark_in said x true (none_given d.image.raw d.image.raw false _ none h.mark) refl) (still memory_in said x _ _ _ refl h.memory)
-    (still budget_in said x _ _ _ refl h.budget) (needed said x refl h.needs) (listed start_in said x refl h.starts)
-    (listed slots_in said x refl h.slots))
+    → Holds d (Declares directive.Raw) (record d { image = image; has_begun = true })
+mark_held d image e first none = subst (λ (im : Image). Holds d (Declares directive.Raw) (record d { image = im; has_begun = true })) (sym e) (λ said h.
+    let x = Declares directive.Raw in declared d directive.Raw _ _ _ said h first (unversioned d said x refl h) (
+      first_given mark_in said x true (none_given d.image.raw d.image.raw false _ none h.mark) refl,
+      still memory_in said x _ _ _ refl h.memory,
+      still budget_in said x _ _ _ refl h.budget,
+      needed said x refl h.needs,
+      listed start_in said x refl h.starts,
+      listed slots_in said x refl h.slots,
+    ))
 
 pub memory_held : (d : Held) (image : Image) (n : ℕ) → image ≡ record d.image { memory = n } → d.has_body ≡ false → d.has_memory ≡ false
-    → Holds d (Declares (directive.Memory n)) (record d { image = image; has_memory = true })
+    → Holds d (Declares (directive.Memory n)) (record d { image = image; has_memory = true; has_begun = true })
 memory_held d image n e first none =
-    subst (λ (im : Image). Holds d (Declares (directive.Memory n)) (record d { image = im; has_memory = true })) (sym e) (λ said h.
-    let x = Declares (directive.Memory n) in declared d (directive.Memory n) _ _ _ said h first
-    (still mark_in said x _ _ _ refl h.mark) (first_given memory_in said x n (none_given d.has_memory d.image.memory 0 _ none h.memory) refl)
-    (still budget_in said x _ _ _ refl h.budget) (needed said x refl h.needs) (listed start_in said x refl h.starts)
-    (listed slots_in said x refl h.slots))
+    subst (λ (im : Image). Holds d (Declares (directive.Memory n)) (record d { image = im; has_memory = true; has_begun = true })) (sym e) (λ said h.
+    let x = Declares (directive.Memory n) in declared d (directive.Memory n) _ _ _ said h first (unversioned d said x refl h) (
+      still mark_in said x _ _ _ refl h.mark,
+      first_given memory_in said x n (none_given d.has_memory d.image.memory 0 _ none h.memory) refl,
+      still budget_in said x _ _ _ refl h.budget,
+      needed said x refl h.needs,
+      listed start_in said x refl h.starts,
+      listed slots_in said x refl h.slots,
+    ))
 
 pub budget_held : (d : Held) (image : Image) (n : ℕ) → image ≡ record d.image { budget = n } → d.has_body ≡ false → d.has_budget ≡ false
-    → Holds d (Declares (directive.Budget n)) (record d { image = image; has_budget = true })
+    → Holds d (Declares (directive.Budget n)) (record d { image = image; has_budget = true; has_begun = true })
 budget_held d image n e first none =
-    subst (λ (im : Image). Holds d (Declares (directive.Budget n)) (record d { image = im; has_budget = true })) (sym e) (λ said h.
-    let x = Declares (directive.Budget n) in declared d (directive.Budget n) _ _ _ said h first
-    (still mark_in said x _ _ _ refl h.mark) (still memory_in said x _ _ _ refl h.memory)
-    (first_given budget_in said x n (none_given d.has_budget d.image.budget 1 _ none h.budget) refl) (needed said x refl h.needs)
-    (listed start_in said x refl h.starts) (listed slots_in said x refl h.slots))
+    subst (λ (im : Image). Holds d (Declares (directive.Budget n)) (record d { image = im; has_budget = true; has_begun = true })) (sym e) (λ said h.
+    let x = Declares (directive.Budget n) in declared d (directive.Budget n) _ _ _ said h first (unversioned d said x refl h) (
+      still mark_in said x _ _ _ refl h.mark,
+      still memory_in said x _ _ _ refl h.memory,
+      first_given budget_in said x n (none_given d.has_budget d.image.budget 1 _ none h.budget) refl,
+      needed said x refl h.needs,
+      listed start_in said x refl h.starts,
+      listed slots_in said x refl h.slots,
+    ))
 
 pub need_held : (d : Held) (image : Image) (c : Condition) → image ≡ record d.image { needs = needs_named (c ∷ d.image.needs) } → d.has_body ≡ false
-    → Holds d (Declares (directive.Need c)) (record d { image = image })
-need_held d image c e first = subst (λ (im : Image). Holds d (Declares (directive.Need c)) (record d { image = im })) (sym e) (λ said h.
-    let x = Declares (directive.Need c) in declared d (directive.Need c) _ _ _ said h first
-    (still mark_in said x _ _ _ refl h.mark) (still memory_in said x _ _ _ refl h.memory) (still budget_in said x _ _ _ refl h.budget)
-    (ap (λ (l : List Condition). needs_named (c ∷ l)) h.needs ∙ needs-more (flat_map need_in said) c ∙ ap needs_named (sym (added need_in said x c refl)))
-    (listed start_in said x refl h.starts) (listed slots_in said x refl h.slots))
+    → Holds d (Declares (directive.Need c)) (record d { image = image; has_begun = true })
+need_held d image c e first = subst (λ (im : Image). Holds d (Declares (directive.Need c)) (record d { image = im; has_begun = true })) (sym e) (λ said h.
+    let x = Declares (directive.Need c) in declared d (directive.Need c) _ _ _ said h first (unversioned d said x refl h) (
+      still mark_in said x _ _ _ refl h.mark,
+      still memory_in said x _ _ _ refl h.memory,
+      still budget_in said x _ _ _ refl h.budget,
+      ap (λ (l : List Condition). needs_named (c ∷ l)) h.needs ∙ needs-more (flat_map need_in said) c ∙ ap needs_named (sym (added need_in said x c refl)),
+      listed start_in said x refl h.starts,
+      listed slots_in said x refl h.slots,
+    ))
 
 pub starts_held : (d : Held) (image : Image) (s : Start) → image ≡ record d.image { starts = d.image.starts ++ (s ∷ []) } → d.has_body ≡ false
-    → Holds d (Declares (directive.Start s)) (record d { image = image })
-starts_held d image s e first = subst (λ (im : Image). Holds d (Declares (directive.Start s)) (record d { image = im })) (sym e) (λ said h.
-    let x = Declares (directive.Start s) in declared d (directive.Start s) _ _ _ said h first
-    (still mark_in said x _ _ _ refl h.mark) (still memory_in said x _ _ _ refl h.memory) (still budget_in said x _ _ _ refl h.budget)
-    (needed said x refl h.needs) (ap (λ (l : List Start). l ++ s ∷ []) h.starts ∙ sym (added start_in said x s refl))
-    (listed slots_in said x refl h.slots))
+    → Holds d (Declares (directive.Start s)) (record d { image = image; has_begun = true })
+starts_held d image s e first = subst (λ (im : Image). Holds d (Declares (directive.Start s)) (record d { image = im; has_begun = true })) (sym e) (λ said h.
+    let x = Declares (directive.Start s) in declared d (directive.Start s) _ _ _ said h first (unversioned d said x refl h) (
+      still mark_in said x _ _ _ refl h.mark,
+      still memory_in said x _ _ _ refl h.memory,
+      still budget_in said x _ _ _ refl h.budget,
+      needed said x refl h.needs,
+      ap (λ (l : List Start). l ++ s ∷ []) h.starts ∙ sym (added start_in said x s refl),
+      listed slots_in said x refl h.slots,
+    ))
 
 pub slot_array_held : (d : Held) (image : Image) (s : SlotArray) → image ≡ record d.image { slots = d.image.slots ++ (s ∷ []) } → d.has_body ≡ false
-    → Holds d (Declares (directive.Slots s)) (record d { image = image })
-slot_array_held d image s e first = subst (λ (im : Image). Holds d (Declares (directive.Slots s)) (record d { image = im })) (sym e) (λ said h.
-    let x = Declares (directive.Slots s) in declared d (directive.Slots s) _ _ _ said h first
-    (still mark_in said x _ _ _ refl h.mark) (still memory_in said x _ _ _ refl h.memory) (still budget_in said x _ _ _ refl h.budget)
-    (needed said x refl h.needs) (listed start_in said x refl h.starts)
-    (ap (λ (l : List SlotArray). l ++ s ∷ []) h.slots ∙ sym (added slots_in said x s refl)))
+    → Holds d (Declares (directive.Slots s)) (record d { image = image; has_begun = true })
+slot_array_held d image s e first =
+    subst (λ (im : Image). Holds d (Declares (directive.Slots s)) (record d { image = im; has_begun = true })) (sym e) (λ said h.
+    let x = Declares (directive.Slots s) in declared d (directive.Slots s) _ _ _ said h first (unversioned d said x refl h) (
+      still mark_in said x _ _ _ refl h.mark,
+      still memory_in said x _ _ _ refl h.memory,
+      still budget_in said x _ _ _ refl h.budget,
+      needed said x refl h.needs,
+      listed start_in said x refl h.starts,
+      ap (λ (l : List SlotArray). l ++ s ∷ []) h.slots ∙ sym (added slots_in said x s refl),
+    ))
 
 -- ---- one line more behind
 
 pub blank_held : (d : Held) → Holds d Blank d
 blank_held d = λ said h.
-    held _ _ (order-more said Blank refl h.order) (h.body ∙ sym (no_body-more said Blank refl)) (unsaid d said Blank refl refl refl refl refl refl h)
+    held _ _ (unversioned d said Blank refl h) (order-more is_body declares said Blank refl (and_parts _ _ h.order).1)
+    (h.some ∙ sym (none-more says said Blank refl)) (h.body ∙ sym (none-more is_body said Blank refl)) (unsaid d said Blank refl refl refl refl refl refl h)
     (h.labels ∙ sym (none_in_blank said)) (ap names_once (none_in_blank said) ∙ h.once) (listed source_in said Blank refl h.sources)
 
 counted : {xs ys : List Source} → xs ≡ ys → length xs ≡ 0 + length ys
 counted e = omega (arith, ap length e)
 
 pub label_held : (d : Held) (name : List ℕ) → position_of d.labels name ≡ None
-    → Holds d (Label name) (record d { has_body = true; labels = d.labels ++ (name, length d.sources) ∷ [] })
+    → Holds d (Label name) (record d { has_begun = true; has_body = true; labels = d.labels ++ (name, length d.sources) ∷ [] })
 label_held d name free = λ said h.
-    held _ _ (order-more said (Label name) refl h.order) (sym (body-more said (Label name) refl)) (unsaid d said (Label name) refl refl refl refl refl refl h)
+    held _ _ (unversioned d said (Label name) refl h) (order-more is_body declares said (Label name) refl (and_parts _ _ h.order).1)
+    (sym (one-more says said (Label name) refl)) (sym (one-more is_body said (Label name) refl)) (unsaid d said (Label name) refl refl refl refl refl refl h)
     (ap (λ (l : List (List ℕ × ℕ)). l ++ (name, length d.sources) ∷ []) h.labels
     ∙ ap (λ (k : ℕ). labels_from 0 said ++ (name, k) ∷ []) (counted h.sources) ∙ sym (one_label said name))
     (ap names_once (one_label said name) ∙ once-more (labels_from 0 said) (name, 0 + length (flat_map source_in said)) h.once
     (ap (λ (l : List (List ℕ × ℕ)). position_of l name) (sym h.labels) ∙ free)) (listed source_in said (Label name) refl h.sources)
 
-pub code_held : (d : Held) (s : Source) → Holds d (Code s) (record d { has_body = true; sources = d.sources ++ s ∷ [] })
+pub code_held : (d : Held) (s : Source) → Holds d (Code s) (record d { has_begun = true; has_body = true; sources = d.sources ++ s ∷ [] })
 code_held d s = λ said h.
-    held _ _ (order-more said (Code s) refl h.order) (sym (body-more said (Code s) refl)) (unsaid d said (Code s) refl refl refl refl refl refl h)
+    held _ _ (unversioned d said (Code s) refl h) (order-more is_body declares said (Code s) refl (and_parts _ _ h.order).1)
+    (sym (one-more says said (Code s) refl)) (sym (one-more is_body said (Code s) refl)) (unsaid d said (Code s) refl refl refl refl refl refl h)
     (h.labels ∙ sym (none_in_code said s)) (ap names_once (none_in_code said s) ∙ h.once)
     (ap (λ (l : List Source). l ++ s ∷ []) h.sources ∙ sym (added source_in said (Code s) s refl))
 
@@ -258,12 +312,13 @@ code_held d s = λ said h.
 
 pub nothing_held : (labels : List (List ℕ × ℕ)) (sources : List Source) → labels ≡ [] → sources ≡ []
     → IsHeldOf [] (record {
-      image = record { raw = false; memory = 0; budget = 1; needs = []; starts = []; slots = []; code = [] };
+      image = blank_image;
       has_memory = false;
       has_budget = false;
+      has_begun = false;
       has_body = false;
       labels = labels;
       sources = sources;
     })
-unfolding directives_first labels_from names_once
-nothing_held labels sources none empty = held _ _ refl refl ((refl, refl), (refl, refl), (refl, refl), refl, refl, refl) none refl empty
+unfolding none_behind labels_from names_once
+nothing_held labels sources none empty = held _ _ (refl, refl) refl refl refl ((refl, refl), (refl, refl), (refl, refl), refl, refl, refl) none refl empty

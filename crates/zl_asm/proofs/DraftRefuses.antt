@@ -1,14 +1,19 @@
 -- Which lines a draft refuses.
-use Rattle.zl_asm.proofs.Common.{Bool, Code, Declares, Directive, Held, Label, List, None, Refuses, SlotArray, Source, Start, [], ap, false, instr_fault}
+use Rattle.zl_asm.proofs.Common.{Bool, Code, Declares, Directive, Held, Label, List, None, Refuses, SlotArray, Source, Start, Version, [], ap, false}
+use Rattle.zl_asm.proofs.Common.{instr_fault}
 use Rattle.zl_asm.proofs.Common.{is_some, length, position_of, subst, sym, true, ℕ, ◌∙◌, ◌∷◌, ◌≡◌, ◌≤◌}
 use Rattle.zl_asm.specs.declared.directive.Directive.TheVariants as directive
 use Rattle.zl_asm.proofs.DraftHolds.{one_given, given_is}
-use Rattle.zl_asm.proofs.ListingRefused.{refused_behind, refused_mark, refused_memory, refused_budget, refused_start, refused_slots, refused_label}
-use Rattle.zl_asm.proofs.ListingRefused.{refused_count, refused_fault}
+use Rattle.zl_asm.proofs.ListingRefused.{refused_behind, refused_version, refused_mark, refused_memory, refused_budget, refused_start}
+use Rattle.zl_asm.proofs.ListingRefused.{refused_slots, refused_label, refused_count, refused_fault}
 
 -- a directive behind a label or an instruction
 pub behind_refused : (d : Held) (x : Directive) → d.has_body ≡ true → Refuses d (Declares x)
 behind_refused d x e = λ said h rest. refused_behind said rest x (sym h.body ∙ e)
+
+-- the version behind a line that says something
+pub version_refused : (d : Held) → d.has_begun ≡ true → Refuses d (Declares directive.VersionTwo)
+version_refused d e = λ said h rest. refused_version said rest (sym h.some ∙ e)
 
 pub mark_refused : (d : Held) → d.image.raw ≡ true → Refuses d (Declares directive.Raw)
 mark_refused d e = λ said h rest. refused_mark said rest (one_given d.image.raw d.image.raw false _ e h.mark ∙ ap (λ (b : Bool). b ∷ []) e)
@@ -31,5 +36,8 @@ label_refused d name there = λ said h rest. refused_label said rest name (subst
 pub count_refused : (d : Held) (s : Source) → 4096 ≤ length d.sources → Refuses d (Code s)
 count_refused d s many = λ said h rest. refused_count said rest s (subst (λ (l : List Source). 4096 ≤ length l) h.sources many)
 
-pub fault_refused : (d : Held) (s : Source) → s.label ≡ None → is_some (instr_fault d.image.raw s.bytes) ≡ true → Refuses d (Code s)
-fault_refused d s alone fault = λ said h rest. refused_fault said rest s d.image.raw alone (given_is d.image.raw d.image.raw false _ h.mark) fault
+pub fault_refused : (d : Held) (s : Source) → s.label ≡ None → is_some (instr_fault d.image.version d.image.raw s.bytes) ≡ true
+    → Refuses d (Code s)
+fault_refused d s alone fault = λ said h rest.
+    refused_fault said rest s d.image.raw alone (given_is d.image.raw d.image.raw false _ h.mark)
+    (subst (λ (v : Version). is_some (instr_fault v d.image.raw s.bytes) ≡ true) h.version fault)

@@ -1,7 +1,8 @@
 -- Words with a text between any two, one word after the other.
-use Rattle.zl_asm.proofs.Common.{Bool, List, [], ap, append-nil, append_assoc, arith, behind, cases_Bool, codes, cond, eqb, false, filter, flat_map}
-use Rattle.zl_asm.proofs.Common.{flat_map-append, get_or, inl, inr, joined, length, length-map, length-take-le, map, map-append, nat_tests, not, refl}
-use Rattle.zl_asm.proofs.Common.{register_text, sym, take, take_more, true, ℕ, ◌++◌, ◌+◌, ◌<◌, ◌∙◌, ◌∷◌, ◌≡◌}
+use Rattle.zl_asm.proofs.Common.{Bool, List, [], ap, append-nil, append_assoc, arith, behind, codes, cond, eqb, false, filter, flat_map}
+use Rattle.zl_asm.proofs.Common.{flat_map-append, get_or, joined, length, map, map-append, nat_tests, not, refl, register_text, suc, sym, take, take_more}
+use Rattle.zl_asm.proofs.Common.{true, zero, ℕ}
+use Rattle.zl_asm.proofs.Common.{◌++◌, ◌+◌, ◌<◌, ◌∙◌, ◌∷◌, ◌≡◌, ◌≤◌}
 use Rattle.std.proofs.lemmas.List.Elements.{filter_more}
 
 -- each word with the text before it
@@ -33,42 +34,6 @@ next_word between word [] h = absurd (omega arith)
 next_word between word (first ∷ words) h =
     joined-more between first words (word ∷ []) ∙ ap (λ (x : List ℕ). joined between (first ∷ words) ++ x) (one_behind between word)
 
--- ---- registers
-
-module _ (registers : List ℕ) (i d : ℕ) (within : i < length registers) where
-  shown : map register_text (take (i + 1) registers) ≡ map register_text (take i registers) ++ (register_text (get_or registers i d) ∷ [])
-  shown = ap (map register_text) (take_more registers i d within) ∙ map-append register_text (take i registers) (get_or registers i d ∷ [])
-
-  pub register_more : joined (codes ", ") (map register_text (take (i + 1) registers))
-      ≡ joined (codes ", ") (map register_text (take i registers)) ++ (cond (eqb i 0) [] (codes ", ") ++ register_text (get_or registers i d))
-  unfolding joined
-  register_more = elim (cases_Bool (eqb i 0)) [ inl first ↦ at_first first | inr later ↦ at_next later ]
-    where
-      at_first : eqb i 0 ≡ true → joined (codes ", ") (map register_text (take (i + 1) registers))
-          ≡ joined (codes ", ") (map register_text (take i registers)) ++ (cond (eqb i 0) [] (codes ", ") ++ register_text (get_or registers i d))
-      at_first first =
-          let none : i ≡ 0 = grind (arith, nat_tests) in
-          let empty : take i registers ≡ [] = ap (λ (n : ℕ). take n registers) none in
-          ap (joined (codes ", ")) shown ∙ rw (empty, first) refl
-
-      at_next : eqb i 0 ≡ false → joined (codes ", ") (map register_text (take (i + 1) registers))
-          ≡ joined (codes ", ") (map register_text (take i registers)) ++ (cond (eqb i 0) [] (codes ", ") ++ register_text (get_or registers i d))
-      at_next later =
-          let some : 0 < i = grind (arith, nat_tests) in
-          let many : 0 < length (map register_text (take i registers)) =
-          omega (arith, length-map (take i registers) register_text, length-take-le i registers (omega arith)) in
-          ap (joined (codes ", ")) shown ∙ next_word (codes ", ") (register_text (get_or registers i d)) (map register_text (take i registers)) many
-          ∙ rw later refl
-
--- ---- places with a register
-
-abbrev has_register : ℕ → Bool
-has_register place = not (eqb place 255)
-
--- the texts of the registers in these places
-abbrev pub texts : List ℕ → List (List ℕ)
-texts places = map register_text (filter has_register places)
-
 -- what stands before the next word
 abbrev pub between_now : List ℕ → List (List ℕ) → List ℕ
 between_now separator [] = separator
@@ -85,6 +50,33 @@ behind-more separator word (first ∷ words) =
 between-more : (separator word : List ℕ) (words : List (List ℕ)) → between_now separator (words ++ (word ∷ [])) ≡ codes ", "
 between-more separator word [] = refl
 between-more separator word (first ∷ words) = refl
+
+-- ---- registers
+
+-- nothing stands before the first of them
+first_now : (separator : List ℕ) (i : ℕ) (registers : List ℕ) → i ≤ length registers
+    → between_now separator (map register_text (take i registers)) ≡ cond (eqb i 0) separator (codes ", ")
+first_now separator zero registers le = refl
+first_now separator (suc i) [] le = absurd (omega arith)
+first_now separator (suc i) (r ∷ registers) le = let later : eqb (suc i) 0 ≡ false = grind (arith, nat_tests) in rw later refl
+
+pub register_more : (separator registers : List ℕ) (i d : ℕ) → i < length registers → behind separator (map register_text (take (i + 1) registers))
+    ≡ behind separator (map register_text (take i registers)) ++ (cond (eqb i 0) separator (codes ", ") ++ register_text (get_or registers i d))
+register_more separator registers i d within =
+    ap (behind separator)
+    (ap (map register_text) (take_more registers i d within) ∙ map-append register_text (take i registers) (get_or registers i d ∷ []))
+    ∙ behind-more separator (register_text (get_or registers i d)) (map register_text (take i registers))
+    ∙ ap (λ (x : List ℕ). behind separator (map register_text (take i registers)) ++ (x ++ register_text (get_or registers i d)))
+    (first_now separator i registers (omega arith))
+
+-- ---- places with a register
+
+abbrev has_register : ℕ → Bool
+has_register place = not (eqb place 255)
+
+-- the texts of the registers in these places
+abbrev pub texts : List ℕ → List (List ℕ)
+texts places = map register_text (filter has_register places)
 
 module _ (separator places : List ℕ) (i d : ℕ) (within : i < length places) where
   kept : (has : Bool) → has_register (get_or places i d) ≡ has
@@ -115,30 +107,25 @@ words_behind word words =
     append_assoc (codes ", ") word (each_behind (codes ", ") words) ∙ ap (λ (x : List ℕ). codes ", " ++ x) (sym (joined-cons (codes ", ") word words))
 
 -- registers, and behind them the tail
-pub operands_written : (registers : List ℕ) (tail : List (List ℕ)) → joined (codes ", ") (map register_text registers ++ tail)
-    ≡ joined (codes ", ") (map register_text registers) ++ behind (cond (eqb (length registers) 0) [] (codes ", ")) tail
-unfolding joined
-operands_written [] [] = refl
-operands_written [] (word ∷ words) = refl
-operands_written (r ∷ registers) [] =
-    ap (joined (codes ", ")) (append-nil (map register_text (r ∷ registers))) ∙ sym (append-nil (joined (codes ", ") (map register_text (r ∷ registers))))
-operands_written (r ∷ registers) (word ∷ words) =
+pub operands_written : (separator : List ℕ) (registers : List ℕ) (tail : List (List ℕ)) → behind separator (map register_text registers ++ tail)
+    ≡ behind separator (map register_text registers) ++ behind (cond (eqb (length registers) 0) separator (codes ", ")) tail
+operands_written separator [] tail = refl
+operands_written separator (r ∷ registers) [] =
+    ap (behind separator) (append-nil (map register_text (r ∷ registers))) ∙ sym (append-nil (behind separator (map register_text (r ∷ registers))))
+operands_written separator (r ∷ registers) (word ∷ words) =
+    let front = joined (codes ", ") (map register_text (r ∷ registers)) in
     let some : eqb (length (r ∷ registers)) 0 ≡ false = grind (arith, nat_tests) in
-    joined-more (codes ", ") (register_text r) (map register_text registers) (word ∷ words)
-    ∙ ap (λ (x : List ℕ). joined (codes ", ") (map register_text (r ∷ registers)) ++ x) (words_behind word words)
-    ∙ ap (λ (none : Bool). joined (codes ", ") (map register_text (r ∷ registers)) ++ behind (cond none [] (codes ", ")) (word ∷ words)) (sym some)
+    rw some (ap (λ (x : List ℕ). separator ++ x) (joined-more (codes ", ") (register_text r) (map register_text registers) (word ∷ words)
+    ∙ ap (λ (x : List ℕ). front ++ x) (words_behind word words))
+    ∙ sym (append_assoc separator front (codes ", " ++ joined (codes ", ") (word ∷ words))))
 
 -- a whole row
-pub row_written : (text name first second third last : List ℕ) (registers : List ℕ) (separator : List ℕ) (tail : List (List ℕ)) → first ≡ text ++ name
-    → second ≡ first ++ codes " " → third ≡ second ++ joined (codes ", ") (map register_text registers) → last ≡ third ++ behind separator tail
-    → separator ≡ cond (eqb (length registers) 0) [] (codes ", ")
-    → last ≡ text ++ (name ++ (codes " " ++ joined (codes ", ") (map register_text registers ++ tail)))
-row_written text name first second third last registers separator tail a b c d same =
-    let both : joined (codes ", ") (map register_text registers) ++ behind separator tail ≡ joined (codes ", ") (map register_text registers ++ tail) =
-    ap (λ (x : List ℕ). joined (codes ", ") (map register_text registers) ++ behind x tail) same ∙ sym (operands_written registers tail) in
-    d ∙ ap (λ (x : List ℕ). x ++ behind separator tail)
-    (c ∙ ap (λ (x : List ℕ). x ++ joined (codes ", ") (map register_text registers)) (b ∙ ap (λ (x : List ℕ). x ++ codes " ") a))
-    ∙ append_assoc ((text ++ name) ++ codes " ") (joined (codes ", ") (map register_text registers)) (behind separator tail)
-    ∙ ap (λ (x : List ℕ). ((text ++ name) ++ codes " ") ++ x) both
-    ∙ append_assoc (text ++ name) (codes " ") (joined (codes ", ") (map register_text registers ++ tail))
-    ∙ append_assoc text name (codes " " ++ joined (codes ", ") (map register_text registers ++ tail))
+pub row_written : (text name first third last : List ℕ) (registers : List ℕ) (separator : List ℕ) (tail : List (List ℕ)) → first ≡ text ++ name
+    → third ≡ first ++ behind (codes " ") (map register_text registers) → last ≡ third ++ behind separator tail
+    → separator ≡ cond (eqb (length registers) 0) (codes " ") (codes ", ")
+    → last ≡ text ++ (name ++ behind (codes " ") (map register_text registers ++ tail))
+row_written text name first third last registers separator tail a b c same =
+    c ∙ (λ i. b i ++ behind (same i) tail)
+    ∙ append_assoc first (behind (codes " ") (map register_text registers)) _
+    ∙ (λ i. a i ++ sym (operands_written (codes " ") registers tail) i)
+    ∙ append_assoc text name (behind (codes " ") (map register_text registers ++ tail))

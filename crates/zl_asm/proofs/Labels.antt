@@ -50,7 +50,7 @@ position-there (x ∷ xs) ys l name e =
 
 -- ---- no name twice
 
-alone_none : (o : Option ℕ) → not (is_some o) ≡ true → o ≡ None
+pub alone_none : {X : Type 0} (o : Option X) → not (is_some o) ≡ true → o ≡ None
 alone_none None e = refl
 alone_none (Some n) e = absurd (true≢false (sym e))
 

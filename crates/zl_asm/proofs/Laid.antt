@@ -1,10 +1,10 @@
 -- The text of an image, piece by piece.
-use Rattle.zl_asm.proofs.Common.{Bool, Condition, Image, IsTrue, List, SlotArray, Start, TargetsAre, [], aims_at, ap, append-nil, append_assoc, arith}
+use Rattle.zl_asm.proofs.Common.{Bool, Condition, Image, IsTrue, List, SlotArray, Start, TargetsAre, Version, [], aims_at, ap, append-nil, append_assoc, arith}
 use Rattle.zl_asm.proofs.Common.{at_drop_more, bits, can_be_needed, code_lines, code_lines_from, codes, cond, condition_name, decimal, directive_lines}
 use Rattle.zl_asm.proofs.Common.{directives_text, drop, ended, false, fields_text, filter, flat_map, flat_map-append, get_or, instr_bytes, instr_text, is_among}
 use Rattle.zl_asm.proofs.Common.{is_in_range, is_target, kind_text, label_lines, label_text, length, line_text, list_any, map, need_text, needs_named}
-use Rattle.zl_asm.proofs.Common.{needs_named-needs, needs_text, ranges, refl, slot_array_text, start_text, suc, sym, take, take_more, text_of, true, ℕ, ◌++◌}
-use Rattle.zl_asm.proofs.Common.{◌+◌, ◌<◌, ◌||◌, ◌∙◌, ◌∷◌, ◌≡◌}
+use Rattle.zl_asm.proofs.Common.{needs_named-needs, needs_text, ranges, refl, slot_array_text, start_text, suc, sym, take, take_more, text_of, true}
+use Rattle.zl_asm.proofs.Common.{version_lines, ℕ, ◌++◌, ◌+◌, ◌<◌, ◌||◌, ◌∙◌, ◌∷◌, ◌≡◌}
 use Rattle.zl_rights.specs.declared.policy.Condition.TheVariants as condition
 use Rattle.zl_asm.specs.Pieces.{need_if_among}
 use Rattle.std.proofs.Math.Bool.{or-false}
@@ -17,28 +17,29 @@ label_ended n true = append-nil ((label_text n ++ codes ":") ++ codes "\n") ∙ 
 label_ended n false = refl
 
 -- the next instruction, and the others
-next_line : (code : List (List ℕ)) (n : ℕ) (bytes : List ℕ) (rest : List (List ℕ))
-    → ended (code_lines_from code n (bytes ∷ rest)) ≡ line_text (length code) n (is_target code n) bytes ++ ended (code_lines_from code (suc n) rest)
+next_line : (v : Version) (code : List (List ℕ)) (n : ℕ) (bytes : List ℕ) (rest : List (List ℕ))
+    → ended (code_lines_from v code n (bytes ∷ rest)) ≡ line_text v (length code) n (is_target v code n) bytes ++ ended (code_lines_from v code (suc n) rest)
 unfolding code_lines_from
-next_line code n bytes rest =
-    let line = instr_text (length code) bytes in
-    let others = ended (code_lines_from code (suc n) rest) in
-    flat_map-append (λ l. l ++ codes "\n") (label_lines code n) (line ∷ code_lines_from code (suc n) rest)
-    ∙ ap (λ (x : List ℕ). x ++ ((line ++ codes "\n") ++ others)) (label_ended n (is_target code n))
-    ∙ sym (append_assoc (cond (is_target code n) (label_text n ++ codes ":\n") []) (line ++ codes "\n") others)
+next_line v code n bytes rest =
+    let line = instr_text v (length code) bytes in
+    let others = ended (code_lines_from v code (suc n) rest) in
+    flat_map-append (λ l. l ++ codes "\n") (label_lines v code n) (line ∷ code_lines_from v code (suc n) rest)
+    ∙ ap (λ (x : List ℕ). x ++ ((line ++ codes "\n") ++ others)) (label_ended n (is_target v code n))
+    ∙ sym (append_assoc (cond (is_target v code n) (label_text n ++ codes ":\n") []) (line ++ codes "\n") others)
 
-module _ (code : List (List ℕ)) (i : ℕ) (d : List ℕ) (within : i < length code) where
+module _ (v : Version) (code : List (List ℕ)) (i : ℕ) (d : List ℕ) (within : i < length code) where
   -- one more line was written
-  pub line_written : (start text new : List ℕ) → text ++ ended (code_lines_from code i (drop i code)) ≡ start
-      → new ≡ text ++ line_text (length code) i (is_target code i) (get_or code i d) → new ++ ended (code_lines_from code (i + 1) (drop (i + 1) code)) ≡ start
+  pub line_written : (start text new : List ℕ) → text ++ ended (code_lines_from v code i (drop i code)) ≡ start
+      → new ≡ text ++ line_text v (length code) i (is_target v code i) (get_or code i d)
+      → new ++ ended (code_lines_from v code (i + 1) (drop (i + 1) code)) ≡ start
   line_written start text new before written =
-      let here : code_lines_from code i (drop i code) ≡ code_lines_from code i (get_or code i d ∷ drop (i + 1) code) =
-      at_drop_more (code_lines_from code i) code i d within in
+      let here : code_lines_from v code i (drop i code) ≡ code_lines_from v code i (get_or code i d ∷ drop (i + 1) code) =
+      at_drop_more (code_lines_from v code i) code i d within in
       let step : i + 1 ≡ suc i = omega arith in
-      ap (λ (x : List ℕ). x ++ ended (code_lines_from code (i + 1) (drop (i + 1) code))) written
-      ∙ append_assoc text (line_text (length code) i (is_target code i) (get_or code i d)) (ended (code_lines_from code (i + 1) (drop (i + 1) code)))
-      ∙ (λ k. text ++ (line_text (length code) i (is_target code i) (get_or code i d) ++ ended (code_lines_from code (step k) (drop (i + 1) code))))
-      ∙ ap (λ (x : List ℕ). text ++ x) (sym (next_line code i (get_or code i d) (drop (i + 1) code)) ∙ ap ended (sym here))
+      ap (λ (x : List ℕ). x ++ ended (code_lines_from v code (i + 1) (drop (i + 1) code))) written
+      ∙ append_assoc text (line_text v (length code) i (is_target v code i) (get_or code i d)) (ended (code_lines_from v code (i + 1) (drop (i + 1) code)))
+      ∙ (λ k. text ++ (line_text v (length code) i (is_target v code i) (get_or code i d) ++ ended (code_lines_from v code (step k) (drop (i + 1) code))))
+      ∙ ap (λ (x : List ℕ). text ++ x) (sym (next_line v code i (get_or code i d) (drop (i + 1) code)) ∙ ap ended (sym here))
       ∙ before
 
 -- ---- targets
@@ -47,14 +48,15 @@ any_more : (p : List ℕ → Bool) (xs : List (List ℕ)) (x : List ℕ) → lis
 any_more p xs x = list_any-append p xs (x ∷ []) ∙ ap (λ (b : Bool). list_any p xs || b) (or-false (p x))
 
 -- one more instruction was looked at
-pub targets_more : (old new : List Bool) (code : List (List ℕ)) (count i : ℕ) (d : List ℕ) → i < length code → TargetsAre old (take i code) count
+pub targets_more : (v : Version) (old new : List Bool) (code : List (List ℕ)) (count i : ℕ) (d : List ℕ) → i < length code
+    → TargetsAre v old (take i code) count
     → length new ≡ length old
-    → ((n : ℕ) → n < length old → get_or new n false ≡ (get_or old n false || aims_at n (get_or code i d))) → TargetsAre new (take (i + 1) code) count
-targets_more old new code count i d within before len each = record {
+    → ((n : ℕ) → n < length old → get_or new n false ≡ (get_or old n false || aims_at v n (get_or code i d))) → TargetsAre v new (take (i + 1) code) count
+targets_more v old new code count i d within before len each = record {
   len = len ∙ before.len;
   each = λ n below.
-      each n (omega (arith, before.len)) ∙ ap (λ (b : Bool). b || aims_at n (get_or code i d)) (before.each n below)
-      ∙ sym (ap (λ (xs : List (List ℕ)). is_target xs n) (take_more code i d within) ∙ any_more (aims_at n) (take i code) (get_or code i d));
+      each n (omega (arith, before.len)) ∙ ap (λ (b : Bool). b || aims_at v n (get_or code i d)) (before.each n below)
+      ∙ sym (ap (λ (xs : List (List ℕ)). is_target v xs n) (take_more code i d within) ∙ any_more (aims_at v n) (take i code) (get_or code i d));
 }
 
 -- ---- directives
@@ -129,18 +131,19 @@ directives_ended i same =
     ++ (mapped_ended {X = Start} (λ s. codes ".start " ++ (kind_text s.kind ++ (codes " " ++ decimal (bits s.rights)))) start_text start_ended i.starts k
     ++ mapped_ended {X = SlotArray} (λ s. codes ".slots " ++ (kind_text s.kind ++ (codes " " ++ (decimal s.length ++ (codes " " ++ decimal (bits s.rights))))))
     slot_array_text slot_array_ended i.slots k)) in
-    both_ended (cond i.raw (codes ".raw" ∷ []) [])
-    ((codes ".memory " ++ decimal i.memory) ∷ (codes ".budget " ++ decimal i.budget) ∷ (needs ++ (starts ++ slots)))
+    let numbers = (codes ".memory " ++ decimal i.memory) ∷ (codes ".budget " ++ decimal i.budget) ∷ (needs ++ (starts ++ slots)) in
+    both_ended (version_lines i.version) (cond i.raw (codes ".raw" ∷ []) [] ++ numbers)
+    ∙ ap (λ (x : List ℕ). ended (version_lines i.version) ++ x) (both_ended (cond i.raw (codes ".raw" ∷ []) []) numbers
     ∙ fields_ended i.raw (decimal i.memory) (decimal i.budget) (ended (needs ++ (starts ++ slots)))
-    ∙ ap (λ (x : List ℕ). fields_text i.raw i.memory i.budget ++ x) lists
+    ∙ ap (λ (x : List ℕ). fields_text i.raw i.memory i.budget ++ x) lists)
 
 -- the whole text
 pub text_written : (i : Image) (first last : List ℕ) → needs_named i.needs ≡ i.needs → first ≡ [] ++ directives_text i
-    → last ≡ first ++ ended (code_lines (map instr_bytes i.code)) → last ≡ text_of i
+    → last ≡ first ++ ended (code_lines i.version (map instr_bytes i.code)) → last ≡ text_of i
 unfolding text_of
 text_written i first last same a b =
-    b ∙ ap (λ (x : List ℕ). x ++ ended (code_lines (map instr_bytes i.code))) (a ∙ sym (directives_ended i same))
-    ∙ sym (both_ended (directive_lines i) (code_lines (map instr_bytes i.code)))
+    b ∙ ap (λ (x : List ℕ). x ++ ended (code_lines i.version (map instr_bytes i.code))) (a ∙ sym (directives_ended i same))
+    ∙ sym (both_ended (directive_lines i) (code_lines i.version (map instr_bytes i.code)))
 
 -- the needs of an image in range are in their order
 pub needs_in_range : (i : Image) → IsTrue (is_in_range i) → needs_named i.needs ≡ i.needs

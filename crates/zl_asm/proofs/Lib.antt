@@ -3,6 +3,8 @@ mod RowsText
 pub mod ListingBytes
 mod Answered
 mod LineNames
+mod PairedBlocks
+mod PairedCode
 mod LineOperands
 mod WordsHex
 mod WordsNumber
@@ -20,6 +22,7 @@ mod RoundLabels
 mod RoundDirectives
 mod RoundBody
 mod RoundListing
+mod RoundPaired
 mod RoundWhole
 mod Joined
 mod Laid

@@ -1,13 +1,18 @@
 -- Lines that give no fields of an image, whatever lines follow.
-use Rattle.zl_asm.proofs.Common.{Blank, Bool, Code, Declares, Directive, Label, Line, List, Listing, None, Option, Some, Source, [], all_of, ap, append-nil}
-use Rattle.zl_asm.proofs.Common.{arith, budget_in, cond, declares, directives_first, false, fits, flat_map, flat_map-append, given, if_fits, instr_fault}
-use Rattle.zl_asm.proofs.Common.{is_body, is_fine, is_listing, is_some, labels_from, length, length-append, list_all, list_all-append, list_any, listing_from}
-use Rattle.zl_asm.proofs.Common.{listing_with, lt-leb, mark_in, memory_in, names_once, need_in, needs_named, not, onto_all, position_of, refl, resolved}
-use Rattle.zl_asm.proofs.Common.{slots_in, source_in, start_in, sym, true, true≢false, ℕ, ◌&&◌, ◌++◌, ◌+◌, ◌<◌, ◌||◌, ◌∙◌, ◌∷◌, ◌≡◌, ◌≤◌}
+use Rattle.zl_asm.proofs.Common.{Blank, Bool, Code, Declares, Directive, Label, Line, List, Listing, None, Option, Some, Source, Version, [], all_of, ap}
+use Rattle.zl_asm.proofs.Common.{append-nil}
+use Rattle.zl_asm.proofs.Common.{are_in_order, arith, budget_in, cond, declares, false, fits, flat_map, flat_map-append, given, gives_version, if_fits}
+use Rattle.zl_asm.proofs.Common.{if◌then◌else◌}
+use Rattle.zl_asm.proofs.Common.{instr_fault, is_body, is_fine, is_listing, is_some, labels_from, length, length-append, list_all, list_all-append, list_any}
+use Rattle.zl_asm.proofs.Common.{listing_from, listing_with, lt-leb, mark_in, memory_in, names_once, need_in, needs_named, nested, none_behind, not, onto_all}
+use Rattle.zl_asm.proofs.Common.{position_of, refl, resolved, says, slots_in, source_in, start_in, sym, then_with, true, true≢false, version_in, ℕ, ◌&&◌}
+use Rattle.zl_asm.proofs.Common.{◌++◌, ◌+◌, ◌<◌}
+use Rattle.zl_asm.proofs.Common.{◌||◌, ◌∙◌, ◌∷◌, ◌≡◌, ◌≤◌}
 use Rattle.zl_asm.specs.declared.directive.Directive.TheVariants as directive
 use Rattle.zl_asm.proofs.Labels.{labels_from-append, not-once}
 use Rattle.std.proofs.lemmas.Bool.{and_right, and_parts, not_from_true}
-use Rattle.std.proofs.Math.Bool.{and-false}
+use Rattle.std.proofs.Math.Bool.{and-false, and-true}
+use Rattle.zl_code.specs.declared.image.Version.TheVariants as version
 
 -- ---- a value for each
 
@@ -64,16 +69,17 @@ unless : {X : Type 0} (b : Bool) (o : Option X) → o ≡ None → cond b o None
 unless true o e = e
 unless false o e = refl
 
-pub none_by_order : (lines : List Line) → directives_first lines ≡ false → listing_from lines ≡ None
+pub none_by_order : (lines : List Line) → are_in_order lines ≡ false → listing_from lines ≡ None
 unfolding listing_from
 none_by_order lines e = rw e refl
 
 pub none_by_names : (lines : List Line) → names_once (labels_from 0 lines) ≡ false → listing_from lines ≡ None
 unfolding listing_from
-none_by_names lines e = rw (e, and_right (directives_first lines) false refl) refl
+none_by_names lines e = rw (e, and_right (are_in_order lines) false refl) refl
 
 abbrev pub listing_of_fields : List Line → Bool → ℕ → ℕ → List (List ℕ) → Listing
 listing_of_fields lines raw memory budget code = record {
+  version = version_in lines;
   raw = raw;
   memory = memory;
   budget = budget;
@@ -90,9 +96,9 @@ pub none_by_fields : (lines : List Line) → ((raw : Bool) (memory budget : ℕ)
     → listing_from lines ≡ None
 unfolding listing_from
 none_by_fields lines fails =
-    unless (directives_first lines && names_once (labels_from 0 lines)) _
-    (by (given (flat_map mark_in lines) false) (given (flat_map memory_in lines) 0) (given (flat_map budget_in lines) 1)
-    (all_of (resolved (labels_from 0 lines)) (flat_map source_in lines)) fails)
+    unless (are_in_order lines && names_once (labels_from 0 lines)) _
+    (ap (λ (o : Option Listing). then_with o nested) (by (given (flat_map mark_in lines) false) (given (flat_map memory_in lines) 0)
+    (given (flat_map budget_in lines) 1) (all_of (resolved (labels_from 0 lines)) (flat_map source_in lines)) fails))
   where
     by : (m : Option Bool) (n b : Option ℕ) (c : Option (List (List ℕ)))
         → ((raw : Bool) (memory budget : ℕ) (code : List (List ℕ)) → m ≡ Some raw → n ≡ Some memory → b ≡ Some budget → c ≡ Some code
@@ -110,18 +116,24 @@ pub given-twice : {X : Type 0} (f : Line → List X) (said rest : List Line) (li
     → given (flat_map f (said ++ line ∷ rest)) usual ≡ None
 given-twice f said rest line x y usual one two = rw (flat_map-append f said (line ∷ rest), one, two) refl
 
-behind_body : (said rest : List Line) (d : Directive) → list_any is_body said ≡ true → directives_first (said ++ Declares d ∷ rest) ≡ false
-unfolding directives_first
-behind_body [] rest d e = absurd (true≢false (sym e))
-behind_body (line ∷ said) rest d e = by (is_body line) (behind_body said rest d) e
+out_of_order : (first later : Line → Bool) (said rest : List Line) (x : Line) → later x ≡ true → list_any first said ≡ true
+    → none_behind first later (said ++ x ∷ rest) ≡ false
+unfolding none_behind
+out_of_order first later [] rest x t e = absurd (true≢false (sym e))
+out_of_order first later (line ∷ said) rest x t e = by (first line) (out_of_order first later said rest x t) e
   where
-    by : (b : Bool) → (list_any is_body said ≡ true → directives_first (said ++ Declares d ∷ rest) ≡ false) → (b || list_any is_body said) ≡ true
-        → cond b (list_all (λ l. not (declares l)) (said ++ Declares d ∷ rest)) (directives_first (said ++ Declares d ∷ rest)) ≡ false
-    by true more h = list_all-append (λ l. not (declares l)) said (Declares d ∷ rest) ∙ and-false _
+    by : (b : Bool) → (list_any first said ≡ true → none_behind first later (said ++ x ∷ rest) ≡ false) → (b || list_any first said) ≡ true
+        → cond b (list_all (λ l. not (later l)) (said ++ x ∷ rest)) (none_behind first later (said ++ x ∷ rest)) ≡ false
+    by true more h =
+        list_all-append (λ l. not (later l)) said (x ∷ rest)
+        ∙ (λ i. list_all (λ l. not (later l)) said && (not (t i) && list_all (λ l. not (later l)) rest)) ∙ and-false _
     by false more h = more h
 
+pub refused_version : (said rest : List Line) → list_any says said ≡ true → listing_from (said ++ Declares directive.VersionTwo ∷ rest) ≡ None
+refused_version said rest e = none_by_order _ (rw (out_of_order says gives_version said rest (Declares directive.VersionTwo) refl e) refl)
+
 pub refused_behind : (said rest : List Line) (d : Directive) → list_any is_body said ≡ true → listing_from (said ++ Declares d ∷ rest) ≡ None
-refused_behind said rest d e = none_by_order _ (behind_body said rest d e)
+refused_behind said rest d e = none_by_order _ (and_right _ _ (out_of_order is_body declares said rest (Declares d) refl e))
 
 pub refused_mark : (said rest : List Line) → flat_map mark_in said ≡ true ∷ [] → listing_from (said ++ Declares directive.Raw ∷ rest) ≡ None
 refused_mark said rest e =
@@ -181,10 +193,10 @@ refused_count said rest s many = none_by_fields _ (λ raw memory budget code m n
 -- ---- an instruction with a fault
 
 pub not_listing : (f : Source → Option (List ℕ)) (xs ys : List Source) (s : Source) (lines : List Line) (raw : Bool) (memory budget : ℕ)
-    (code : List (List ℕ)) → all_of f (xs ++ s ∷ ys) ≡ Some code → is_fine raw (f s) ≡ false
+    (code : List (List ℕ)) → all_of f (xs ++ s ∷ ys) ≡ Some code → is_fine (version_in lines) raw (f s) ≡ false
     → is_listing (listing_of_fields lines raw memory budget code) ≡ false
 not_listing f xs ys s lines raw memory budget code e fails =
-    rw (all_of-fault f (λ bytes. not (is_some (instr_fault raw bytes))) xs ys code s e fails, and-false, and-false, and-false) refl
+    rw (all_of-fault f (λ bytes. not (is_some (instr_fault (version_in lines) raw bytes))) xs ys code s e fails, and-false, and-false, and-false) refl
 
 no_marks : (rest : List Line) → list_all (λ l. not (declares l)) rest ≡ true → flat_map mark_in rest ≡ []
 no_marks [] e = refl
@@ -194,35 +206,52 @@ no_marks (Label name ∷ rest) e = no_marks rest e
 no_marks (Code s ∷ rest) e = no_marks rest e
 
 -- no directive stands behind a body
-behind_code : (said rest : List Line) (s : Source) → directives_first (said ++ Code s ∷ rest) ≡ true → list_all (λ l. not (declares l)) rest ≡ true
-unfolding directives_first
+behind_code : (said rest : List Line) (s : Source) → none_behind is_body declares (said ++ Code s ∷ rest) ≡ true → list_all (λ l. not (declares l)) rest ≡ true
+unfolding none_behind
 behind_code [] rest s e = e
 behind_code (line ∷ said) rest s e = by (is_body line) (behind_code said rest s) e
   where
-    by : (b : Bool) → (directives_first (said ++ Code s ∷ rest) ≡ true → list_all (λ l. not (declares l)) rest ≡ true)
-        → cond b (list_all (λ l. not (declares l)) (said ++ Code s ∷ rest)) (directives_first (said ++ Code s ∷ rest)) ≡ true
+    by : (b : Bool) → (none_behind is_body declares (said ++ Code s ∷ rest) ≡ true → list_all (λ l. not (declares l)) rest ≡ true)
+        → cond b (list_all (λ l. not (declares l)) (said ++ Code s ∷ rest)) (none_behind is_body declares (said ++ Code s ∷ rest)) ≡ true
         → list_all (λ l. not (declares l)) rest ≡ true
     by true more h = (and_parts _ _ (sym (list_all-append (λ l. not (declares l)) said (Code s ∷ rest)) ∙ h)).1
     by false more h = more h
 
 -- the marks stay
-same_marks : (said rest : List Line) (s : Source) → directives_first (said ++ Code s ∷ rest) ≡ true
+same_marks : (said rest : List Line) (s : Source) → are_in_order (said ++ Code s ∷ rest) ≡ true
     → flat_map mark_in (said ++ Code s ∷ rest) ≡ flat_map mark_in said
 same_marks said rest s e =
-    flat_map-append mark_in said (Code s ∷ rest) ∙ ap (λ (l : List Bool). flat_map mark_in said ++ l) (no_marks rest (behind_code said rest s e)) ∙ append-nil _
+    flat_map-append mark_in said (Code s ∷ rest)
+    ∙ ap (λ (l : List Bool). flat_map mark_in said ++ l) (no_marks rest (behind_code said rest s (and_parts _ _ e).1)) ∙ append-nil _
+
+-- so does the version
+same_version : (said rest : List Line) (s : Source) → are_in_order (said ++ Code s ∷ rest) ≡ true → version_in (said ++ Code s ∷ rest) ≡ version_in said
+same_version said rest s e =
+    ap (λ (b : Bool). if b then version.One else version.Two)
+    (list_all-append (λ l. not (gives_version l)) said (Code s ∷ rest)
+    ∙ ap (λ (b : Bool). list_all (λ l. not (gives_version l)) said && b) (none_give rest (behind_code said rest s (and_parts _ _ e).1)) ∙ and-true _)
+  where
+    none_give : (rest : List Line) → list_all (λ l. not (declares l)) rest ≡ true → list_all (λ l. not (gives_version l)) rest ≡ true
+    none_give [] e = refl
+    none_give (Blank ∷ rest) e = none_give rest e
+    none_give (Declares d ∷ rest) e = absurd (true≢false (sym e))
+    none_give (Label name ∷ rest) e = none_give rest e
+    none_give (Code s ∷ rest) e = none_give rest e
 
 -- an instruction without a label, with a fault
 pub refused_fault : (said rest : List Line) (s : Source) (raw : Bool) → s.label ≡ None → given (flat_map mark_in said) false ≡ Some raw
-    → is_some (instr_fault raw s.bytes) ≡ true → listing_from (said ++ Code s ∷ rest) ≡ None
-refused_fault said rest s raw label mark fault = by (directives_first (said ++ Code s ∷ rest)) refl
+    → is_some (instr_fault (version_in said) raw s.bytes) ≡ true → listing_from (said ++ Code s ∷ rest) ≡ None
+refused_fault said rest s raw label mark fault = by (are_in_order (said ++ Code s ∷ rest)) refl
   where
-    by : (b : Bool) → directives_first (said ++ Code s ∷ rest) ≡ b → listing_from (said ++ Code s ∷ rest) ≡ None
+    by : (b : Bool) → are_in_order (said ++ Code s ∷ rest) ≡ b → listing_from (said ++ Code s ∷ rest) ≡ None
     by false e = none_by_order _ e
     by true e = none_by_fields _ (λ r memory budget code m n b c.
         let marks : given (flat_map mark_in (said ++ Code s ∷ rest)) false ≡ given (flat_map mark_in said) false =
         ap (λ (l : List Bool). given l false) (same_marks said rest s e) in
         let same : r ≡ raw = cc in
-        let bad : is_fine r (resolved (labels_from 0 (said ++ Code s ∷ rest)) s) ≡ false = rw (label, same) (not_from_true _ fault) in
+        let bad : is_fine (version_in (said ++ Code s ∷ rest)) r (resolved (labels_from 0 (said ++ Code s ∷ rest)) s) ≡ false =
+        ap (λ (v : Version). is_fine v r (resolved (labels_from 0 (said ++ Code s ∷ rest)) s)) (same_version said rest s e)
+        ∙ rw (label, same) (not_from_true _ fault) in
         let split = flat_map-append source_in said (Code s ∷ rest) in
         not_listing (resolved (labels_from 0 (said ++ Code s ∷ rest))) (flat_map source_in said) (flat_map source_in rest) s (said ++ Code s ∷ rest)
         r memory budget code (ap (all_of (resolved (labels_from 0 (said ++ Code s ∷ rest)))) (sym split) ∙ c) bad)

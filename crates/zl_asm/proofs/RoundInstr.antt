@@ -1,22 +1,33 @@
 -- The line of an instruction is read as its bytes.
-use Rattle.zl_asm.proofs.Common.{Bool, Code, IsBytes, List, None, Option, Row, Some, Source, [], aims, and_parts, ap, arith, codes, drop, eq-eqb, false}
-use Rattle.zl_asm.proofs.Common.{hex_text, instr_fault, instr_text, is_ending_clear, is_word, joined, layout, layout_of, length, length-drop}
-use Rattle.zl_asm.proofs.Common.{length-take, line_of, list_all, list_all-from_IsBytes, operand_texts, option_map, pow-suc, reading_of, refl, resolved}
-use Rattle.zl_asm.proofs.Common.{row_bytes, row_named, row_of, row_text, slice_index, source_of, starts_with, suc, take, true, unknown_of, words_of, zero, ℕ}
-use Rattle.zl_asm.proofs.Common.{◌++◌, ◌<◌, ◌==◌, ◌^◌, ◌∙◌, ◌∷◌, ◌≡◌}
+use Rattle.zl_asm.proofs.Common.{Bool, Code, Ending, IsBytes, List, None, Option, Row, Some, Source, Version, [], aims, and_parts, ap, append-nil, arith}
+use Rattle.zl_asm.proofs.Common.{behind, codes, drop, eq-eqb, eqb-true, false, hex_text, if_fits, if◌then◌else◌, instr_fault, instr_text, is_ending_clear}
+use Rattle.zl_asm.proofs.Common.{is_known, is_new, is_word, label_of, layout, layout_at, layout_of, length, length-drop, length-take, line_of, list_all}
+use Rattle.zl_asm.proofs.Common.{list_all-from_IsBytes, not, operand_texts, operands_of, option_map, pow-suc, reading_of, refl, resolved, row_at, row_by}
+use Rattle.zl_asm.proofs.Common.{row_bytes}
+use Rattle.zl_asm.proofs.Common.{row_of, row_text, slice_index, source_of, starts_with, suc, sym, take, true, true≢false, unknown_of, unwrap_or, with_target}
+use Rattle.zl_asm.proofs.Common.{words_of, written, zero}
+use Rattle.zl_asm.proofs.Common.{ℕ, ◌++◌, ◌<◌, ◌==◌, ◌^◌, ◌∙◌, ◌∷◌, ◌≡◌}
+use Rattle.zl_asm.specs.Lines.{untargeted as untargeted_end}
+use Rattle.zl_code.specs.Instructions.{layout_in}
+use Rattle.zl_code.specs.Spells.{mark_in}
+use Rattle.zl_code.specs.declared.blocks.Mark.{Mark}
+use Rattle.zl_code.specs.declared.blocks.Mark.TheVariants as mark
+use Rattle.zl_code.specs.declared.image.Version.TheVariants as version
+use Rattle.zl_code.specs.declared.layout.Ending.TheVariants as ending
+use Rattle.zl_code.proofs.BlockBytes.{unknown_mark}
 use Rattle.zl_code.proofs.Common.{number_of}
 use Rattle.zl_code.proofs.InstrFacts.{no_fault-row, row_bytes-again}
 use Rattle.zl_code.proofs.ImageBytes.{IsBytes-drop}
 use Rattle.zl_asm.proofs.RoundWords.{is_plain_word, with_commas, words_of-operands, operands_of-commas, words_of-space, words_of-alone}
 use Rattle.zl_asm.proofs.RoundHex.{hex_again, plain_word-hex}
 use Rattle.zl_asm.proofs.RoundRows.{row_fits}
-use Rattle.zl_asm.proofs.RoundSource.{IsWhole, IsPlaced, source_read, source_of-texts, plain_operands, some_operand, source_resolved}
+use Rattle.zl_asm.proofs.RoundSource.{IsWhole, IsPlaced, is_listed, whole_written, source_read, source_of-texts, plain_operands, source_resolved}
 
 -- bytes of an instruction without a fault
-pub record IsInstr (raw : Bool) (bytes : List ℕ) : Type 0 where
+pub record IsInstr (v : Version) (raw : Bool) (bytes : List ℕ) : Type 0 where
   pub len : length bytes ≡ 16
   pub fits : IsBytes bytes
-  pub fault : instr_fault raw bytes ≡ None
+  pub fault : instr_fault v raw bytes ≡ None
 
 -- ---- what was read
 
@@ -32,88 +43,164 @@ numbers_small (suc n) (b ∷ bytes) h =
     let rest = numbers_small n bytes (λ i. h (suc i)) in
     omega (arith, pow-suc 256 n)
 
-layout_at : (row : Row) (bytes : List ℕ) → row_of (slice_index bytes 0) ≡ Some row
-    → layout_of (slice_index bytes 0) ≡ Some (layout (length row.fields) row.ending)
-layout_at row bytes here = ap (option_map (λ r. layout (length r.fields) r.ending)) here
+-- a known row
+pub record IsKnown (v : Version) (row : Row) (opcode : ℕ) : Type 0 where
+  pub known : is_known v opcode ≡ true
+  pub there : row_of opcode ≡ Some row
+  pub laid : layout_at v opcode ≡ Some (layout (length row.fields) row.ending)
+
+pub known_by : (v : Version) (opcode : ℕ) (row : Row) → row_at v opcode ≡ Some row → IsKnown v row opcode
+known_by v opcode row h = by (is_known v opcode) refl h
+  where
+    by : (b : Bool) → is_known v opcode ≡ b → (if b then row_of opcode else None) ≡ Some row → IsKnown v row opcode
+    by true known there = record { known = known; there = there; laid = rw (known, there) refl }
+    by false known there = cc
 
 -- what was read of bytes of this row
-pub whole_of : (raw : Bool) (row : Row) (bytes : List ℕ) → row_of (slice_index bytes 0) ≡ Some row → IsInstr raw bytes → IsWhole row.ending (reading_of bytes)
-whole_of raw row bytes here h =
+pub whole_of : (v : Version) (raw : Bool) (row : Row) (bytes : List ℕ) → row_at v (slice_index bytes 0) ≡ Some row → IsInstr v raw bytes
+    → IsWhole (written row) (reading_of bytes)
+whole_of v raw row bytes here h =
     let l = layout (length row.fields) row.ending in
-    let r = no_fault-row raw bytes l (layout_at row bytes here) h.fault in
+    let r = no_fault-row v raw bytes l (known_by v _ row here).laid h.fault in
     let len : length bytes ≡ 16 = h.len in
-    record {
+    whole_written row (reading_of bytes) (record {
       seven_there = omega (arith, length-take 7 (drop 1 bytes), length-drop 1 bytes);
       registers = r.registers;
       imm = numbers_small 4 (drop 8 bytes) (IsBytes-drop 8 bytes h.fits);
       target = numbers_small 4 (drop 12 bytes) (IsBytes-drop 12 bytes h.fits);
       eight = omega (arith, length-drop 8 bytes);
       named = r.named;
-      clear = (and_parts (list_all (λ x. x == 0) (drop l.registers (reading_of bytes).registers)) (is_ending_clear l.ending (reading_of bytes)) r.unused).1;
-    }
+      clear = listed row.ending (and_parts (list_all (λ x. x == 0) (drop l.registers (reading_of bytes).registers)) _ r.unused).1;
+    })
+  where
+    listed : (e : Ending) → is_ending_clear e (reading_of bytes) ≡ true → is_listed e (reading_of bytes) ≡ true
+    listed ending.Handles h = h
+    listed _ h = refl
 
 -- ---- a line of operands
 
-line_of-operands : (name : List ℕ) (row : Row) (operands : List (List ℕ)) (s : Source) → is_plain_word name ≡ true → starts_with ◌==◌ name (codes ".") ≡ false
-    → row_named name ≡ Some row → 0 < length operands → list_all is_plain_word operands ≡ true → source_of row operands ≡ Some s
-    → line_of (words_of (name ++ (codes " " ++ joined (codes ", ") operands))) ≡ Some (Code s)
-unfolding line_of with_commas
-line_of-operands name row [] s plain no_point named there all source = absurd (omega arith)
-line_of-operands name row (word ∷ []) s plain no_point named there all source =
-    ap line_of (words_of-operands name (word ∷ []) plain all) ∙ rw (no_point, named, operands_of-commas word [] all, source) refl
-line_of-operands name row (word ∷ next ∷ words) s plain no_point named there all source =
-    ap line_of (words_of-operands name (word ∷ next ∷ words) plain all) ∙ rw (no_point, named, operands_of-commas word (next ∷ words) all, source) refl
+line_of-operands : (v : Version) (name : List ℕ) (row : Row) (operands : List (List ℕ)) (s : Source) → is_plain_word name ≡ true
+    → starts_with ◌==◌ name (codes ".") ≡ false → label_of name ≡ None → row_by v name ≡ Some row → list_all is_plain_word operands ≡ true
+    → source_of row operands ≡ Some s → line_of v (words_of (name ++ behind (codes " ") operands)) ≡ Some (Code s)
+unfolding line_of with_commas operands_of
+line_of-operands v name row [] s plain no_point no_label named all source =
+    ap (line_of v) (ap words_of (append-nil name) ∙ words_of-alone name plain) ∙ rw (no_point, no_label, named, source) refl
+line_of-operands v name row (word ∷ []) s plain no_point no_label named all source =
+    ap (line_of v) (words_of-operands name (word ∷ []) plain all) ∙ rw (no_point, named, operands_of-commas word [] all, source) refl
+line_of-operands v name row (word ∷ next ∷ words) s plain no_point no_label named all source =
+    ap (line_of v) (words_of-operands name (word ∷ next ∷ words) plain all) ∙ rw (no_point, named, operands_of-commas word (next ∷ words) all, source) refl
 
 -- an instruction of a known opcode
-row_said : (count : ℕ) (raw : Bool) (row : Row) (bytes : List ℕ) → row_of (slice_index bytes 0) ≡ Some row → IsInstr raw bytes
-    → line_of (words_of (row_text count bytes (Some row))) ≡ Some (Code (source_read count row (reading_of bytes)))
-row_said count raw row bytes here h =
-    let f = row_fits (slice_index bytes 0) row here in
-    let w = whole_of raw row bytes here h in
-    line_of-operands row.name row (operand_texts count row (reading_of bytes)) (source_read count row (reading_of bytes)) f.plain f.no_point f.named
-    (some_operand count row (reading_of bytes) w.seven_there f.few f.operand) (plain_operands count row (reading_of bytes) w)
+row_said : (v : Version) (count : ℕ) (raw : Bool) (row : Row) (bytes : List ℕ) → row_at v (slice_index bytes 0) ≡ Some row → IsInstr v raw bytes
+    → line_of v (words_of (row_text count bytes (Some row))) ≡ Some (Code (source_read count row (reading_of bytes)))
+row_said v count raw row bytes here h =
+    let k = known_by v (slice_index bytes 0) row here in
+    let f = row_fits (slice_index bytes 0) row k.there in
+    let w = whole_of v raw row bytes here h in
+    let known : is_known v row.opcode ≡ true = ap (is_known v) f.same ∙ k.known in
+    line_of-operands v row.name row (operand_texts count row (reading_of bytes)) (source_read count row (reading_of bytes)) f.plain f.no_point f.no_label
+    (ap (if_fits (λ row. is_known v row.opcode)) f.named ∙ rw known refl) (plain_operands count row (reading_of bytes) w)
     (source_of-texts count row (reading_of bytes) f.few w)
 
+-- an opcode that the version doesn't know
+unknown_by : (v : Version) (opcode : ℕ) → row_at v opcode ≡ None → layout_at v opcode ≡ None
+unknown_by v opcode h = by (is_known v opcode) h
+  where
+    by : (b : Bool) → (if b then row_of opcode else None) ≡ None → (if b then layout_of opcode else None) ≡ None
+    by true none = ap (option_map layout_in) none
+    by false none = refl
+
 -- bytes of an unknown one
-unknown_said : (bytes : List ℕ) → row_of (slice_index bytes 0) ≡ None → length bytes ≡ 16 → IsBytes bytes
-    → line_of (words_of (codes ".bytes " ++ hex_text bytes)) ≡ Some (Code (record { bytes = bytes; label = None }))
+unknown_said : (v : Version) (bytes : List ℕ) → row_at v (slice_index bytes 0) ≡ None → length bytes ≡ 16 → IsBytes bytes
+    → line_of v (words_of (codes ".bytes " ++ hex_text bytes)) ≡ Some (Code (record { bytes = bytes; label = None }))
 unfolding line_of is_word unknown_of
-unknown_said bytes here len fits =
+unknown_said v bytes here len fits =
     let bounded = list_all-from_IsBytes bytes fits in
     let digits = plain_word-hex bytes (omega arith) bounded in
     let long : (length bytes == 16) ≡ true = eq-eqb (length bytes) 16 len in
-    ap line_of
+    ap (line_of v)
     (words_of-space (codes ".bytes") (hex_text bytes) refl ∙ ap (λ (ws : List (List ℕ)). codes ".bytes" ∷ ws) (words_of-alone (hex_text bytes) digits))
-    ∙ rw (hex_again bytes bounded, long, here) refl
+    ∙ rw (hex_again bytes bounded, long, unknown_by v _ here) refl
 
 -- what the line of an instruction says
 abbrev pub source_by : ℕ → List ℕ → Option Row → Source
 source_by count bytes None = record { bytes = bytes; label = None }
 source_by count bytes (Some row) = source_read count row (reading_of bytes)
 
-abbrev pub source_said : ℕ → List ℕ → Source
-source_said count bytes = source_by count bytes (row_of (slice_index bytes 0))
+abbrev pub source_said : Version → ℕ → List ℕ → Source
+source_said v count bytes = source_by count bytes (row_at v (slice_index bytes 0))
 
-pub instr_said : (count : ℕ) (raw : Bool) (bytes : List ℕ) → IsInstr raw bytes
-    → line_of (words_of (instr_text count bytes)) ≡ Some (Code (source_said count bytes))
-instr_said count raw bytes h = by (row_of (slice_index bytes 0)) refl
+pub instr_said : (v : Version) (count : ℕ) (raw : Bool) (bytes : List ℕ) → IsInstr v raw bytes
+    → line_of v (words_of (instr_text v count bytes)) ≡ Some (Code (source_said v count bytes))
+instr_said v count raw bytes h = by (row_at v (slice_index bytes 0)) refl
   where
-    by : (o : Option Row) → row_of (slice_index bytes 0) ≡ o → line_of (words_of (row_text count bytes o)) ≡ Some (Code (source_by count bytes o))
-    by None here = unknown_said bytes here h.len h.fits
-    by (Some row) here = row_said count raw row bytes here h
+    by : (o : Option Row) → row_at v (slice_index bytes 0) ≡ o → line_of v (words_of (row_text count bytes o)) ≡ Some (Code (source_by count bytes o))
+    by None here = unknown_said v bytes here h.len h.fits
+    by (Some row) here = row_said v count raw row bytes here h
 
 -- ---- its bytes again
 
-pub instr_resolved : (labels : List (List ℕ × ℕ)) (count : ℕ) (raw : Bool) (bytes : List ℕ) → IsInstr raw bytes
-    → (aims (row_of (slice_index bytes 0)) ≡ true → IsPlaced labels count (reading_of bytes).target) → resolved labels (source_said count bytes) ≡ Some bytes
-instr_resolved labels count raw bytes h placed = by (row_of (slice_index bytes 0)) refl placed
+-- what the text says of the bytes: a rep and an endrep have no target
+abbrev pub untargeted_by : Mark → List ℕ → List ℕ
+untargeted_by mark.Plain bytes = bytes
+untargeted_by _ bytes = with_target bytes 0
+
+abbrev pub untargeted : Version → List ℕ → List ℕ
+untargeted v bytes = untargeted_by (mark_in v bytes) bytes
+
+-- so it is where the row is known
+untargeted_row : (v : Version) (raw : Bool) (row : Row) (bytes : List ℕ) → row_at v (slice_index bytes 0) ≡ Some row → IsInstr v raw bytes
+    → row_bytes row.opcode (layout (length row.fields) (written row)) (reading_of bytes) ≡ untargeted v bytes
+unfolding row_of
+untargeted_row v raw row bytes here h = by (slice_index bytes 0 == 26) refl (slice_index bytes 0 == 27) refl
   where
-    by : (o : Option Row) → row_of (slice_index bytes 0) ≡ o → (aims o ≡ true → IsPlaced labels count (reading_of bytes).target)
-        → resolved labels (source_by count bytes o) ≡ Some bytes
-    by None here stands = refl
+    k : IsKnown v row (slice_index bytes 0)
+    k = known_by v (slice_index bytes 0) row here
+
+    same : row_bytes (slice_index bytes 0) (layout (length row.fields) row.ending) (reading_of bytes) ≡ bytes
+    same = row_bytes-again v raw bytes (layout (length row.fields) row.ending) h.len h.fits k.laid h.fault
+
+    new : (w : Version) → is_known w (slice_index bytes 0) ≡ true → is_new (slice_index bytes 0) ≡ true → w ≡ version.Two
+    new version.Two known is = refl
+    new version.One known is = absurd (true≢false (sym known ∙ ap not is))
+
+    plain : (w : Version) → (slice_index bytes 0 == 26) ≡ false → (slice_index bytes 0 == 27) ≡ false → mark_in w bytes ≡ mark.Plain
+    plain version.One p q = refl
+    plain version.Two p q = rw (p, q) refl
+
+    opcode : row.opcode ≡ slice_index bytes 0
+    opcode = (row_fits (slice_index bytes 0) row k.there).same
+
+    by : (p : Bool) → (slice_index bytes 0 == 26) ≡ p → (q : Bool) → (slice_index bytes 0 == 27) ≡ q
+        → row_bytes row.opcode (layout (length row.fields) (written row)) (reading_of bytes) ≡ untargeted v bytes
+    by true p q e =
+        let n : slice_index bytes 0 ≡ 26 = eqb-true _ 26 p in
+        let is : row_of 26 ≡ Some row = ap row_of (sym n) ∙ k.there in
+        let two : v ≡ version.Two = new v k.known (rw p refl) in
+        let r : row ≡ unwrap_or (row_of 26) row = ap (λ (o : Option Row). unwrap_or o row) (sym is) in
+        ap (λ (x : Row). row_bytes x.opcode (layout (length x.fields) (written x)) (reading_of bytes)) r
+        ∙ sym (ap (λ (w : Version). untargeted w bytes) two ∙ rw p (ap (λ (b : List ℕ). with_target b 0)
+        (sym same ∙ (λ j. row_bytes (n j) (layout (length (r j).fields) (r j).ending) (reading_of bytes)))))
+    by false p true e =
+        let n : slice_index bytes 0 ≡ 27 = eqb-true _ 27 e in
+        let is : row_of 27 ≡ Some row = ap row_of (sym n) ∙ k.there in
+        let two : v ≡ version.Two = new v k.known (rw (p, e) refl) in
+        let r : row ≡ unwrap_or (row_of 27) row = ap (λ (o : Option Row). unwrap_or o row) (sym is) in
+        ap (λ (x : Row). row_bytes x.opcode (layout (length x.fields) (written x)) (reading_of bytes)) r
+        ∙ sym (ap (λ (w : Version). untargeted w bytes) two ∙ rw (p, e) (ap (λ (b : List ℕ). with_target b 0)
+        (sym same ∙ (λ j. row_bytes (n j) (layout (length (r j).fields) (r j).ending) (reading_of bytes)))))
+    by false p false e =
+        ap (λ (m : ℕ). row_bytes m (layout (length row.fields) (if is_new m then untargeted_end row.ending else row.ending)) (reading_of bytes)) opcode
+        ∙ rw (p, e, plain v p e) same
+
+pub instr_resolved : (labels : List (List ℕ × ℕ)) (v : Version) (count : ℕ) (raw : Bool) (bytes : List ℕ) → IsInstr v raw bytes
+    → (aims (row_at v (slice_index bytes 0)) ≡ true → IsPlaced labels count (reading_of bytes).target)
+    → resolved labels (source_said v count bytes) ≡ Some (untargeted v bytes)
+instr_resolved labels v count raw bytes h placed = by (row_at v (slice_index bytes 0)) refl placed
+  where
+    by : (o : Option Row) → row_at v (slice_index bytes 0) ≡ o → (aims o ≡ true → IsPlaced labels count (reading_of bytes).target)
+        → resolved labels (source_by count bytes o) ≡ Some (untargeted v bytes)
+    by None here stands = ap (λ (m : Mark). Some (untargeted_by m bytes)) (sym (unknown_mark v bytes (unknown_by v _ here)))
     by (Some row) here stands =
-        let f = row_fits (slice_index bytes 0) row here in
-        let l = layout (length row.fields) row.ending in
-        let same : row_bytes row.opcode l (reading_of bytes) ≡ bytes =
-        ap (λ (n : ℕ). row_bytes n l (reading_of bytes)) f.same ∙ row_bytes-again raw bytes l h.len h.fits (layout_at row bytes here) h.fault in
-        source_resolved labels count row.opcode (length row.fields) row.ending (reading_of bytes) stands ∙ ap (λ (xs : List ℕ). Some xs) same
+        source_resolved labels count row.opcode (length row.fields) (written row) (reading_of bytes) stands
+        ∙ ap (λ (xs : List ℕ). Some xs) (untargeted_row v raw row bytes here h)

@@ -1,10 +1,13 @@
 -- Lines of printed bytes, each ended by a line feed, are found again in the text.
-use Rattle.zl_asm.proofs.Common.{Blank, Bool, Line, List, Listing, None, Option, Some, [], all_of, and_from, and_parts, ap, append_assoc, arith, codes, false}
-use Rattle.zl_asm.proofs.Common.{flat_map, is_ascii, joined, line_of, lines_of, list_all, list_all-append, listing_from, listing_of, lt-ltb, ltb-true, nat_lt}
-use Rattle.zl_asm.proofs.Common.{ne_eqb, not, onto_all, refl, true, words_from, words_of, ℕ, ◌&&◌, ◌++◌, ◌<◌, ◌==◌, ◌∙◌, ◌∷◌, ◌≡◌}
+use Rattle.zl_asm.proofs.Common.{Bool, Line, List, Listing, None, Option, Some, Version, [], all_of, and_from, and_parts, ap, append_assoc, arith, codes, false}
+use Rattle.zl_asm.proofs.Common.{flat_map, gives_version, is_ascii, joined, line_of, lines_from, lines_of, list_all, list_all-append, listing_from}
+use Rattle.zl_asm.proofs.Common.{listing_of, lt-ltb, ltb-true, nat_lt}
+use Rattle.zl_asm.proofs.Common.{ne_eqb, not, not-true, onto_all, refl, sym, true, words_of, ℕ, ◌&&◌, ◌++◌, ◌<◌, ◌==◌, ◌∙◌, ◌∷◌, ◌≡◌}
 use Rattle.std.proofs.lemmas.List.Splits.{slice_split-cons_yes, slice_split-cons_no}
 use Rattle.zl_asm.proofs.RoundWords.{is_plain, is_plain_word, plain_all}
 use Rattle.zl_asm.proofs.RoundNumbers.{all_of_kind}
+use Rattle.zl_asm.proofs.ListingRefused.{onto_all-some}
+use Rattle.zl_code.specs.declared.image.Version.TheVariants as version
 
 -- an ASCII character with a mark, or a space
 abbrev pub is_printed : ℕ → Bool
@@ -35,19 +38,20 @@ printed-joined (word ∷ next ∷ words) h =
 
 -- ---- what lines say
 
--- lines of printed bytes, and what each says
-pub record Say (lines : List (List ℕ)) (said : List Line) : Type 0 where
+-- lines of printed bytes, and what each says in a text of the version
+pub record Say (v : Version) (lines : List (List ℕ)) (said : List Line) : Type 0 where
   pub printed : list_all (λ line. list_all is_printed line) lines ≡ true
-  pub says : all_of (λ line. line_of (words_of line)) lines ≡ Some said
+  pub says : all_of (λ line. line_of v (words_of line)) lines ≡ Some said
 
-pub says_nothing : Say [] []
+pub says_nothing : (v : Version) → Say v [] []
 unfolding all_of
-says_nothing = record { printed = refl; says = refl }
+says_nothing v = record { printed = refl; says = refl }
 
-pub says_line : (line : List ℕ) (lines : List (List ℕ)) (said : Line) (more : List Line) → list_all is_printed line ≡ true → line_of (words_of line) ≡ Some said
-    → Say lines more → Say (line ∷ lines) (said ∷ more)
+pub says_line : (v : Version) (line : List ℕ) (lines : List (List ℕ)) (said : Line) (more : List Line) → list_all is_printed line ≡ true
+    → line_of v (words_of line) ≡ Some said
+    → Say v lines more → Say v (line ∷ lines) (said ∷ more)
 unfolding all_of
-says_line line lines said more printed says rest = record { printed = and_from _ _ printed rest.printed; says = λ i. onto_all (says i) (rest.says i) }
+says_line v line lines said more printed says rest = record { printed = and_from _ _ printed rest.printed; says = λ i. onto_all (says i) (rest.says i) }
 
 -- the values of both, where all are there
 both_all : {X : Type 0} → Option (List X) → Option (List X) → Option (List X)
@@ -72,11 +76,12 @@ unfolding all_of
 all_of-append f [] ys = first_none (all_of f ys)
 all_of-append f (x ∷ xs) ys = ap (onto_all (f x)) (all_of-append f xs ys) ∙ onto_both (f x) (all_of f xs) (all_of f ys)
 
-pub says_both : (lines others : List (List ℕ)) (said more : List Line) → Say lines said → Say others more → Say (lines ++ others) (said ++ more)
+pub says_both : (v : Version) (lines others : List (List ℕ)) (said more : List Line) → Say v lines said → Say v others more
+    → Say v (lines ++ others) (said ++ more)
 unfolding both_all
-says_both lines others said more h k = record {
+says_both v lines others said more h k = record {
   printed = list_all-append (λ line. list_all is_printed line) lines others ∙ and_from _ _ h.printed k.printed;
-  says = all_of-append (λ line. line_of (words_of line)) lines others ∙ (λ i. both_all (h.says i) (k.says i));
+  says = all_of-append (λ line. line_of v (words_of line)) lines others ∙ (λ i. both_all (h.says i) (k.says i));
 }
 
 -- ---- lines in a text
@@ -113,12 +118,19 @@ ascii_lines (line ∷ lines) h =
     let p = and_parts (list_all is_printed line) (list_all (λ l. list_all is_printed l) lines) h in
     ap is_ascii (append_assoc line (codes "\n") (text_by lines)) ∙ ascii_line line (codes "\n" ++ text_by lines) p.0 (ascii_lines lines p.1)
 
+-- lines that say nothing of the version are read in it one by one
+pub read_on : (v : Version) (lines : List (List ℕ)) (said : List Line) → all_of (λ line. line_of v (words_of line)) lines ≡ Some said
+    → list_all (λ l. not (gives_version l)) said ≡ true → lines_from v lines ≡ Some said
+unfolding all_of lines_from
+read_on v [] said e none = e
+read_on v (line ∷ lines) said e none =
+    let made = onto_all-some (line_of v (words_of line)) (all_of (λ line. line_of v (words_of line)) lines) said e in
+    let p = and_parts (not (gives_version made.0)) (list_all (λ l. not (gives_version l)) made.1) (sym (ap (list_all (λ l. not
+    (gives_version l))) made.4) ∙ none) in
+    rw (made.2, not-true (gives_version made.0) p.0, read_on v lines made.1 made.3 p.1) (ap Some (sym made.4))
+
 -- the text of lines gives what they say
-pub listing_of-lines : (lines : List (List ℕ)) (said : List Line) (l : Listing) → Say lines said → listing_from (said ++ (Blank ∷ [])) ≡ Some l
-    → listing_of (text_by lines) ≡ Some l
-unfolding listing_of all_of line_of words_from
-listing_of-lines lines said l h from =
-    let found = lines_found lines h.printed in
-    let whole : all_of (λ line. line_of (words_of line)) (lines_of (text_by lines)) ≡ Some (said ++ (Blank ∷ [])) =
-    ap (all_of (λ line. line_of (words_of line))) found ∙ (says_both lines ([] ∷ []) said (Blank ∷ []) h (record { printed = refl; says = refl })).says in
-    rw (ascii_lines lines h.printed, whole) from
+pub listing_of-lines : (lines : List (List ℕ)) (said : List Line) (o : Option Listing) → list_all (λ line. list_all is_printed line) lines ≡ true
+    → lines_from version.One (lines ++ ([] ∷ [])) ≡ Some said → listing_from said ≡ o → listing_of (text_by lines) ≡ o
+unfolding listing_of
+listing_of-lines lines said o printed says from = rw (ascii_lines lines printed, lines_found lines printed, says) from

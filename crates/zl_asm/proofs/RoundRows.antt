@@ -1,13 +1,11 @@
 -- What holds of each row of the table of instructions.
-use Rattle.zl_asm.proofs.Common.{Bool, List, Row, Some, [], and_parts, codes, eqb-true, false, if◌then◌else◌, leb-true, length, list_all, nat_le, nat_lt, not}
-use Rattle.zl_asm.proofs.Common.{not-true, refl, row_among, row_named, row_of, rows, starts_with, subst, true, ℕ, ◌&&◌, ◌==◌, ◌||◌, ◌∷◌, ◌≡◌, ◌≤◌}
-use Rattle.zl_code.specs.declared.layout.Ending.TheVariants as ending
+use Rattle.zl_asm.proofs.Common.{Bool, List, None, Row, Some, [], and_parts, codes, eqb-true, false, if◌then◌else◌, is_some, is_word, label_of, leb-true}
+use Rattle.zl_asm.proofs.Common.{length}
+use Rattle.zl_asm.proofs.Common.{list_all, nat_le, not, not-true, refl, row_among, row_named, row_of, rows, starts_with, subst, true, ℕ, ◌&&◌, ◌==◌, ◌∷◌, ◌≡◌}
+use Rattle.zl_asm.proofs.Common.{◌≤◌}
 use Rattle.zl_code.proofs.InstrTable.{row_named-of}
+use Rattle.zl_asm.proofs.Labels.{alone_none}
 use Rattle.zl_asm.proofs.RoundWords.{is_plain_word}
-
--- an instruction has an operand at least
-abbrev pub has_operand : Row → Bool
-has_operand row = nat_lt 0 (length row.fields) || (elim row.ending as (λ _. Bool) [ ending.Target ↦ true | _ ↦ false ])
 
 -- what holds of a row
 pub record RowFits (row : Row) (opcode : ℕ) : Type 0 where
@@ -16,10 +14,10 @@ pub record RowFits (row : Row) (opcode : ℕ) : Type 0 where
   pub plain : is_plain_word row.name ≡ true
   pub no_point : starts_with ◌==◌ row.name (codes ".") ≡ false
   pub few : length row.fields ≤ 7
-  pub operand : has_operand row ≡ true
+  pub no_label : label_of row.name ≡ None
 
 abbrev test : Row → Bool
-test row = is_plain_word row.name && (not (starts_with ◌==◌ row.name (codes ".")) && (nat_le (length row.fields) 7 && has_operand row))
+test row = is_plain_word row.name && (not (starts_with ◌==◌ row.name (codes ".")) && (nat_le (length row.fields) 7 && not (is_some (label_of row.name))))
 
 -- what holds of each row holds of the one that is found
 found : (rs : List Row) (opcode : ℕ) (row : Row) → list_all test rs ≡ true → row_among rs opcode ≡ Some row → (row.opcode ≡ opcode) × (test row ≡ true)
@@ -34,10 +32,18 @@ found (r ∷ rs) opcode row all h =
     by first rest false e here = rest here
 
 pub row_fits : (opcode : ℕ) (row : Row) → row_of opcode ≡ Some row → RowFits row opcode
-unfolding row_of
+unfolding row_of label_of is_word
 row_fits opcode row h =
     let f = found rows opcode row refl h in
     let a = and_parts (is_plain_word row.name) _ f.1 in
     let b = and_parts (not (starts_with ◌==◌ row.name (codes "."))) _ a.1 in
-    let c = and_parts (nat_le (length row.fields) 7) (has_operand row) b.1 in
-    record { same = f.0; named = row_named-of opcode row h; plain = a.0; no_point = not-true _ b.0; few = leb-true _ 7 c.0; operand = c.1 }
+    let c = and_parts (nat_le (length row.fields) 7) _ b.1 in
+    record {
+      same = f.0;
+      named = row_named-of opcode row h;
+      plain = a.0;
+      no_point = not-true _ b.0;
+      few = leb-true _ 7 c.0;
+      no_label = alone_none
+          (label_of row.name) c.1;
+    }

@@ -1,15 +1,20 @@
 -- The operands of an instruction as they are written give its bytes again.
 use Rattle.zl_asm.proofs.Common.{Bool, Ending, List, None, Reading, Row, Some, Source, Tail, and_from, ap, append_assoc, are_registers, arith, bytes_of}
-use Rattle.zl_asm.proofs.Common.{decimal, drop, drop_at, eq-eqb, false, filter, if◌then◌else◌, is_ending_clear, label_text, layout, length, length-map}
+use Rattle.zl_asm.proofs.Common.{decimal, drop, drop_at, eq-eqb, false, filter, if◌then◌else◌, is_new, is_packed, label_text, layout, length, length-map}
 use Rattle.zl_asm.proofs.Common.{length-replicate, length-take, length-take-le, list_all, list_all-append, map, names_registers, nat_lt, operand_texts}
-use Rattle.zl_asm.proofs.Common.{position_of, refl, register_text, registers_of, replicate, resolved, row_bytes, seven, source_of, source_with, suc, sym, tail}
-use Rattle.zl_asm.proofs.Common.{tail_of, tail_texts, tail_to, take, take_at, true, with_target, zero, ℕ, ◌++◌, ◌+◌, ◌<◌, ◌==◌, ◌^◌, ◌||◌, ◌∙◌, ◌∷◌, ◌≡◌, ◌≤◌}
+use Rattle.zl_asm.proofs.Common.{position_of, refl, register_text, registers_of, replicate, resolved, row_bytes, seven, source_of, source_with, sym, tail}
+use Rattle.zl_asm.proofs.Common.{tail_of, tail_texts, tail_to, take, take_at, true, untargeted, with_target, written, ℕ, ◌++◌, ◌<◌, ◌==◌, ◌^◌, ◌∙◌, ◌∷◌, ◌≡◌}
+use Rattle.zl_asm.proofs.Common.{◌≤◌}
 use Rattle.std.proofs.lemmas.List.{length-append}
 use Rattle.zl_code.specs.declared.layout.Ending.TheVariants as ending
 use Rattle.zl_asm.proofs.RoundWords.{is_plain_word}
 use Rattle.zl_asm.proofs.RoundNumbers.{number_of-decimal, no_name-decimal, is_name-label, plain-decimal, plain-label}
 use Rattle.zl_asm.proofs.RoundRegisters.{is_taken, registers_again, plain-registers, are_registers-take, are_registers-taken, places_of-taken}
-use Rattle.zl_asm.proofs.RoundRows.{has_operand}
+
+-- the places of a list are packed
+abbrev pub is_listed : Ending → Reading → Bool
+is_listed ending.Handles r = is_packed r.places
+is_listed _ r = true
 
 -- what was read of an instruction that has no fault
 pub record IsWhole (ending : Ending) (r : Reading) : Type 0 where
@@ -19,7 +24,22 @@ pub record IsWhole (ending : Ending) (r : Reading) : Type 0 where
   pub target : r.target < 2 ^ 32
   pub eight : length r.places ≡ 8
   pub named : names_registers ending r ≡ true
-  pub clear : is_ending_clear ending r ≡ true
+  pub clear : is_listed ending r ≡ true
+
+-- so it was of what is written
+pub whole_written : (row : Row) (r : Reading) → IsWhole row.ending r → IsWhole (written row) r
+whole_written row r h = by row.ending (is_new row.opcode) h
+  where
+    -- where neither a register nor a list of them is named
+    plain : (e d : Ending) → IsWhole e r → names_registers d r ≡ true → is_listed d r ≡ true → IsWhole d r
+    plain e d h n l =
+        record { seven_there = h.seven_there; registers = h.registers; imm = h.imm; target = h.target; eight = h.eight; named = n; clear = l }
+
+    by : (e : Ending) (b : Bool) → IsWhole e r → IsWhole (if b then untargeted e else e) r
+    by e false h = h
+    by ending.Both true h = plain ending.Both ending.Number h refl refl
+    by ending.Target true h = plain ending.Target ending.Nothing h refl refl
+    by _ true h = h
 
 -- the last eight bytes where a label names the target, if one does
 abbrev pub target_tail : ℕ → ℕ → ℕ → Tail
@@ -52,10 +72,10 @@ tail_of-texts count ending.Handles r h =
 -- the instruction of a row with the operands of what was read
 abbrev pub source_read : ℕ → Row → Reading → Source
 source_read count row r =
-    let t = tail_read count row.ending r in
+    let t = tail_read count (written row) r in
     record { bytes = row.opcode ∷ (seven (take (length row.fields) r.registers) ++ t.bytes); label = t.label }
 
-module _ (count : ℕ) (row : Row) (r : Reading) (few : length row.fields ≤ 7) (h : IsWhole row.ending r) where
+module _ (count : ℕ) (row : Row) (r : Reading) (few : length row.fields ≤ 7) (h : IsWhole (written row) r) where
   registers_len : length (map register_text (take (length row.fields) r.registers)) ≡ length row.fields
   registers_len =
       let all : length r.registers ≡ 7 = h.seven_there in
@@ -64,17 +84,17 @@ module _ (count : ℕ) (row : Row) (r : Reading) (few : length row.fields ≤ 7)
   registers_read : registers_of (length row.fields) (take (length row.fields) (operand_texts count row r)) ≡ Some (take (length row.fields) r.registers)
   registers_read =
       let front : take (length row.fields) (operand_texts count row r) ≡ map register_text (take (length row.fields) r.registers) =
-      take_at (map register_text (take (length row.fields) r.registers)) (tail_texts count row.ending r) (length row.fields) registers_len in
+      take_at (map register_text (take (length row.fields) r.registers)) (tail_texts count (written row) r) (length row.fields) registers_len in
       let enough : (length (map register_text (take (length row.fields) r.registers)) == length row.fields) ≡ true = eq-eqb _ _ registers_len in
       ap (registers_of (length row.fields)) front
       ∙ rw enough (registers_again (take (length row.fields) r.registers) (are_registers-take (length row.fields) r.registers h.registers))
 
-  behind_read : drop (length row.fields) (operand_texts count row r) ≡ tail_texts count row.ending r
-  behind_read = drop_at (map register_text (take (length row.fields) r.registers)) (tail_texts count row.ending r) (length row.fields) registers_len
+  behind_read : drop (length row.fields) (operand_texts count row r) ≡ tail_texts count (written row) r
+  behind_read = drop_at (map register_text (take (length row.fields) r.registers)) (tail_texts count (written row) r) (length row.fields) registers_len
 
   pub source_of-texts : source_of row (operand_texts count row r) ≡ Some (source_read count row r)
   unfolding source_of
-  source_of-texts = λ i. source_with row.opcode (registers_read i) ((ap (tail_of row.ending) behind_read ∙ tail_of-texts count row.ending r h) i)
+  source_of-texts = λ i. source_with row.opcode (registers_read i) ((ap (tail_of (written row)) behind_read ∙ tail_of-texts count (written row) r h) i)
 
 -- ---- plain operands
 
@@ -91,26 +111,11 @@ plain_tail count ending.Target r h = and_from _ _ (plain_target count r.target h
 plain_tail count ending.Both r h = and_from _ _ (plain-decimal r.imm h.imm) (and_from _ _ (plain_target count r.target h.target (nat_lt r.target count)) refl)
 plain_tail count ending.Handles r h = plain-registers (filter is_taken r.places) (are_registers-taken r.places h.named)
 
-pub plain_operands : (count : ℕ) (row : Row) (r : Reading) → IsWhole row.ending r → list_all is_plain_word (operand_texts count row r) ≡ true
+pub plain_operands : (count : ℕ) (row : Row) (r : Reading) → IsWhole (written row) r → list_all is_plain_word (operand_texts count row r) ≡ true
 plain_operands count row r h =
-    list_all-append is_plain_word (map register_text (take (length row.fields) r.registers)) (tail_texts count row.ending r)
+    list_all-append is_plain_word (map register_text (take (length row.fields) r.registers)) (tail_texts count (written row) r)
     ∙ and_from _ _ (plain-registers (take (length row.fields) r.registers) (are_registers-take (length row.fields) r.registers h.registers))
-    (plain_tail count row.ending r h)
-
--- an operand is there
-pub some_operand : (count : ℕ) (row : Row) (r : Reading) → length r.registers ≡ 7 → length row.fields ≤ 7 → has_operand row ≡ true
-    → 0 < length (operand_texts count row r)
-unfolding tail_texts
-some_operand count row r all few there =
-    let len = length-append (map register_text (take (length row.fields) r.registers)) (tail_texts count row.ending r) in
-    let front = length-map (take (length row.fields) r.registers) register_text ∙ length-take-le (length row.fields) r.registers (omega arith) in
-    let here : 0 < length row.fields + length (tail_texts count row.ending r) = by (length row.fields) row.ending there in
-    omega arith
-  where
-    by : (n : ℕ) (e : Ending) → nat_lt 0 n || (elim e as (λ _. Bool) [ ending.Target ↦ true | _ ↦ false ]) ≡ true → 0 < n + length (tail_texts count e r)
-    by (suc n) e h = omega arith
-    by zero ending.Target h = omega arith
-    by zero _ h = absurd cc
+    (plain_tail count (written row) r h)
 
 -- ---- the bytes with the target that a label stands for
 

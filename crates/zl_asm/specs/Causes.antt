@@ -12,6 +12,7 @@ cause_name cause.LabelMissing = codes "LabelMissing"
 cause_name cause.Operand = codes "Operand"
 cause_name cause.Limit = codes "Limit"
 cause_name cause.NoMemory = codes "NoMemory"
+cause_name cause.Block = codes "Block"
 
 -- where there is no answer, memory was refused or this holds
 abbrev pub OnRefusal : {X : Type 0} → Result X AsmCause → Type 0 → Type 0

@@ -9,6 +9,7 @@ use Rattle.zl_asm.specs.Listing.{Listing, listing_of}
 -- what a text has to give, so that it denotes the image
 abbrev pub fields_of : Image → Listing
 fields_of i = record {
+  version = i.version;
   raw = i.raw;
   memory = i.memory;
   budget = i.budget;
@@ -26,7 +27,8 @@ pub record Denotes (text : List ℕ) (i : Image) : Type 0 where
 -- the bytes of an image with these fields
 abbrev pub listing_bytes : Listing → List ℕ
 listing_bytes l =
-    header_bytes l.raw (length l.code) l.memory l.budget l.needs (length l.starts) (length l.slots) ++ body_bytes l.starts l.slots (concat l.code)
+    header_bytes l.version l.raw (length l.code) l.memory l.budget l.needs (length l.starts) (length l.slots)
+    ++ body_bytes l.starts l.slots (concat l.code)
 
 -- the bytes of the image that a text denotes, if it denotes one
 abbrev pub image_bytes_of : List ℕ → Option (List ℕ)

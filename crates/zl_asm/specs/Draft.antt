@@ -1,7 +1,8 @@
 -- What a draft of an image holds of the lines that were read. No public clause cites this module.
-use Rattle.std.specs.Prelude.{ℕ, ◌≡◌, Bool, true, false, ◌&&◌, nat_le, List, [], ◌∷◌, ◌++◌, map, Option, Some, None, if◌then◌else◌, ◌⊎◌}
-use Rattle.std.specs.List.{flat_map, list_any}
-use Rattle.zl_code.specs.Common.{Image, needs_named, instr_bytes, is_start_in_range, is_slot_in_range}
+use Rattle.std.specs.Prelude.{ℕ, ◌≡◌, Bool, true, false, ◌&&◌, nat_le, List, [], ◌∷◌, ◌++◌, length, map, take, Option, Some, None, if◌then◌else◌, ◌⊎◌}
+use Rattle.std.specs.List.{flat_map, list_all, list_any}
+use Rattle.zl_code.specs.Common.{Image, needs_named, instr_bytes, is_instr_in_range, is_start_in_range, is_slot_in_range}
+use Rattle.zl_code.specs.declared.image.Version.{Version}
 use denote.Ref.{Bor}
 use Rattle.zl_code.specs.Limits.{most_memory, most_budget}
 use Rattle.zl_code.specs.declared.instr.Instr.{Instr}
@@ -10,8 +11,9 @@ use Rattle.zl_asm.specs.declared.directive.Directive.TheVariants as directive
 use Rattle.zl_asm.specs.declared.draft.Draft.{Draft}
 use Rattle.zl_asm.specs.declared.draft.SourceLine.{SourceLine}
 use Rattle.zl_asm.specs.Words.{is_ascii, words_of}
-use Rattle.zl_asm.specs.Lines.{Line, Source, line_of}
-use Rattle.zl_asm.specs.Listing.{mark_in, memory_in, budget_in, need_in, start_in, slots_in, source_in, is_body, directives_first, labels_from, names_once, listing_from, lines_said}
+use Rattle.zl_asm.specs.Lines.{Line, Source, all_of, line_of}
+use Rattle.zl_asm.specs.Listing.{mark_in, memory_in, budget_in, need_in, start_in, slots_in, source_in, version_in, says, is_body, are_in_order, labels_from}
+use Rattle.zl_asm.specs.Listing.{names_once, resolved, listing_from, lines_said}
 use Rattle.zl_asm.specs.Denotes.{fields_of}
 use Rattle.zl_asm.specs.Kept.{kept_value}
 
@@ -27,6 +29,8 @@ pub record Held : Type 0 where
   pub image : Image
   pub has_memory : Bool
   pub has_budget : Bool
+  -- a line was read that isn't blank
+  pub has_begun : Bool
   -- a label or an instruction was read
   pub has_body : Bool
   -- the labels with the numbers of their instructions
@@ -47,6 +51,7 @@ held_by d = record {
   image = d.image;
   has_memory = d.has_memory;
   has_budget = d.has_budget;
+  has_begun = d.has_begun;
   has_body = d.has_body;
   labels = labels_shown d.labels.entries;
   sources = sources_shown d.sources.items;
@@ -54,8 +59,10 @@ held_by d = record {
 
 -- it is what these lines said
 pub record IsHeldOf (said : List Line) (h : Held) : Type 0 where
-  pub order : directives_first said ≡ true
+  pub order : are_in_order said ≡ true
+  pub some : h.has_begun ≡ list_any says said
   pub body : h.has_body ≡ list_any is_body said
+  pub version : h.image.version ≡ version_in said
   pub mark : IsGiven h.image.raw h.image.raw false (flat_map mark_in said)
   pub memory : IsGiven h.has_memory h.image.memory 0 (flat_map memory_in said)
   pub budget : IsGiven h.has_budget h.image.budget 1 (flat_map budget_in said)
@@ -68,6 +75,7 @@ pub record IsHeldOf (said : List Line) (h : Held) : Type 0 where
 
 -- each field of the directive is in its range
 abbrev pub is_directive_in_range : Directive → Bool
+is_directive_in_range directive.VersionTwo = true
 is_directive_in_range directive.Raw = true
 is_directive_in_range (directive.Memory n) = nat_le n most_memory
 is_directive_in_range (directive.Budget n) = nat_le 1 n && nat_le n most_budget
@@ -85,17 +93,17 @@ Refuses h line = (said : List Line) → IsHeldOf said h → (rest : List Line) �
 
 -- ---- a line of a text
 
--- what the line says, if it is of the grammar
-abbrev pub line_said : List ℕ → Option Line
-line_said line = if is_ascii line then line_of (words_of line) else None
+-- what the line says in a text of the version, if it is of the grammar
+abbrev pub line_said : Version → List ℕ → Option Line
+line_said v line = if is_ascii line then line_of v (words_of line) else None
 
 -- the line says what is held now beside what was held
 abbrev pub Reads : Held → List ℕ → Held → Type 0
-Reads old line new = (said : Line) × (line_said line ≡ Some said) × Holds old said new
+Reads old line new = (said : Line) × (line_said old.image.version line ≡ Some said) × Holds old said new
 
 -- the line says nothing, or what can't stand there
 abbrev pub Stops : Held → List ℕ → Type 0
-Stops h line = (line_said line ≡ None) ⊎ ((said : Line) × (line_said line ≡ Some said) × Refuses h said)
+Stops h line = (line_said h.image.version line ≡ None) ⊎ ((said : Line) × (line_said h.image.version line ≡ Some said) × Refuses h said)
 
 -- the draft holds what all lines of the text say
 abbrev pub ReadsAll : List ℕ → Held → Type 0
@@ -111,6 +119,16 @@ Gives h i = (said : List Line) → IsHeldOf said h → listing_from said ≡ Som
 abbrev pub GivesNone : Held → Type 0
 GivesNone h = (said : List Line) → IsHeldOf said h → listing_from said ≡ None
 
--- the image has one more instruction, that of these bytes, which are there
-abbrev pub Pushes : Image → Option (List ℕ) → Image → Type 0
-Pushes old bytes new = (i : Instr) × (bytes ≡ Some (instr_bytes i)) × (new ≡ record old { code = old.code ++ i ∷ [] })
+-- there is one more instruction, which can stand there and has these bytes
+abbrev pub Pushes : Version → Bool → List Instr → Option (List ℕ) → List Instr → Type 0
+Pushes v raw old bytes new = (i : Instr) × (bytes ≡ Some (instr_bytes i)) × (is_instr_in_range v raw i ≡ true) × (new ≡ old ++ i ∷ [])
+
+-- the instructions are those of the first sources
+pub record Resolves (h : Held) (code : List Instr) : Type 0 where
+  pub bytes : all_of (resolved h.labels) (take (length code) h.sources) ≡ Some (map instr_bytes code)
+  pub in_range : list_all (is_instr_in_range h.image.version h.image.raw) code ≡ true
+
+-- they are those of all
+pub record IsCodeOf (h : Held) (code : List Instr) : Type 0 where
+  pub bytes : all_of (resolved h.labels) h.sources ≡ Some (map instr_bytes code)
+  pub in_range : list_all (is_instr_in_range h.image.version h.image.raw) code ≡ true

@@ -7,4 +7,5 @@ pub mod Canonical
 pub mod Causes
 pub mod Pieces
 pub mod Kept
+pub mod Paired
 pub mod Draft

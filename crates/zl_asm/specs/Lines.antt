@@ -1,13 +1,16 @@
 -- What a line of a program's text says, by its words.
-use Rattle.std.specs.Prelude.{ℕ, ◌-◌, Bool, ◌&&◌, not, ◌==◌, nat_le, List, [], ◌∷◌, ◌++◌, codes, length, take, drop, replicate, slice_index, Option, Some, None, is_some, if◌then◌else◌}
+use Rattle.std.specs.Prelude.{ℕ, ◌-◌, Bool, ◌&&◌, not, ◌==◌, nat_le, List, [], ◌∷◌, ◌++◌, codes, length, take, drop, replicate, slice_index, Option, Some}
+use Rattle.std.specs.Prelude.{None, is_some, if◌then◌else◌}
 use Rattle.std.specs.Option.{option_map}
 use Rattle.std.specs.List.{starts_with}
-use Rattle.zl_code.specs.Common.{rights_of, is_among, Row, row_named, layout_of, bytes_of, seven, is_start_in_range, is_slot_in_range}
+use Rattle.zl_code.specs.Common.{rights_of, is_among, Row, row_named, bytes_of, seven, is_start_in_range, is_slot_in_range}
+use Rattle.zl_code.specs.Instructions.{is_known, is_new, layout_at}
 use Rattle.zl_rights.specs.declared.kind.Kind.{Kind}
 use Rattle.zl_rights.specs.declared.policy.Condition.{Condition}
 use Rattle.zl_rights.specs.Names.{kind_named, condition_named}
 use Rattle.zl_code.specs.declared.image.Start.{Start}
 use Rattle.zl_code.specs.declared.image.SlotArray.{SlotArray}
+use Rattle.zl_code.specs.declared.image.Version.{Version}
 use Rattle.zl_code.specs.declared.layout.Ending.{Ending}
 use Rattle.zl_code.specs.declared.layout.Ending.TheVariants as ending
 use Rattle.zl_code.specs.Limits.{most_memory, most_budget, most_places, most_handles, no_register, instruction_length}
@@ -62,18 +65,24 @@ abbrev pub slot_array_with : Option (Option Kind) → Option ℕ → Option ℕ 
 slot_array_with (Some kind) (Some len) (Some rights) = if_fits is_slot_in_range (Some (record { kind = kind; length = len; rights = rights_of rights }))
 slot_array_with _ _ _ = None
 
+-- the directive of a version, which is 2
+abbrev pub version_with : List ℕ → Option Directive
+version_with word = option_map (λ n. directive.VersionTwo) (if_fits (λ n. n == 2) (number_of word))
+
 -- the directive of this name with these operands
 unfoldable pub directive_of : List ℕ → List (List ℕ) → Option Directive
 directive_of name [] = if is_word name (codes ".raw") then Some directive.Raw else None
 directive_of name (operand ∷ []) =
-    if is_word name (codes ".memory") then option_map directive.Memory (number_within 0 most_memory operand)
+    if is_word name (codes ".version") then version_with operand
+    else (if is_word name (codes ".memory") then option_map directive.Memory (number_within 0 most_memory operand)
     else (if is_word name (codes ".budget") then option_map directive.Budget (number_within 1 most_budget operand)
     else (if is_word name (codes ".need") then option_map directive.Need (need_of operand)
-    else None))
+    else None)))
 directive_of name (kind ∷ rights ∷ []) =
     if is_word name (codes ".start") then option_map directive.Start (start_with (kind_of kind) (number_of rights)) else None
 directive_of name (kind ∷ len ∷ rights ∷ []) =
-    if is_word name (codes ".slots") then option_map directive.Slots (slot_array_with (kind_of kind) (number_within 1 most_places len) (number_of rights)) else None
+    if is_word name (codes ".slots") then option_map directive.Slots (slot_array_with (kind_of kind) (number_within 1 most_places len)
+    (number_of rights)) else None
 directive_of _ _ = None
 
 -- ---- instructions
@@ -134,6 +143,16 @@ tail_of ending.Both (word ∷ target ∷ []) = then_with (number_of word) (λ im
 tail_of ending.Handles words = option_map (λ places. record { bytes = places; label = None }) (then_with (all_of register_of words) places_of)
 tail_of _ _ = None
 
+-- what stands behind the registers, where no target is written
+abbrev pub untargeted : Ending → Ending
+untargeted ending.Both = ending.Number
+untargeted ending.Target = ending.Nothing
+untargeted e = e
+
+-- what the text has behind the registers: a rep and an endrep are written without their targets
+abbrev pub written : Row → Ending
+written row = if is_new row.opcode then untargeted row.ending else row.ending
+
 -- the instruction by its registers and its last eight bytes, if both were read
 abbrev pub source_with : ℕ → Option (List ℕ) → Option Tail → Option Source
 source_with opcode (Some registers) (Some t) = Some (record { bytes = opcode ∷ (seven registers ++ t.bytes); label = t.label })
@@ -142,16 +161,16 @@ source_with opcode _ _ = None
 -- the instruction of the row with these operands, its registers first
 unfoldable pub source_of : Row → List (List ℕ) → Option Source
 source_of row operands =
-    source_with row.opcode (registers_of (length row.fields) (take (length row.fields) operands)) (tail_of row.ending (drop (length row.fields) operands))
+    source_with row.opcode (registers_of (length row.fields) (take (length row.fields) operands)) (tail_of (written row) (drop (length row.fields) operands))
 
--- the 16 bytes of an instruction with an unknown opcode
-abbrev pub is_unknown : List ℕ → Bool
-is_unknown bytes = (length bytes == instruction_length) && not (is_some (layout_of (slice_index bytes 0)))
+-- the 16 bytes of an instruction with an opcode that the version doesn't know
+abbrev pub is_unknown : Version → List ℕ → Bool
+is_unknown v bytes = (length bytes == instruction_length) && not (is_some (layout_at v (slice_index bytes 0)))
 
 -- what `.bytes` says: one instruction as 32 hexadecimal digits, of an opcode without a mnemonic
-unfoldable pub unknown_of : List (List ℕ) → Option Source
-unknown_of (digits ∷ []) = option_map (λ bytes. record { bytes = bytes; label = None }) (if_fits is_unknown (hex_bytes digits))
-unknown_of _ = None
+unfoldable pub unknown_of : Version → List (List ℕ) → Option Source
+unknown_of v (digits ∷ []) = option_map (λ bytes. record { bytes = bytes; label = None }) (if_fits (is_unknown v) (hex_bytes digits))
+unknown_of v _ = None
 
 -- ---- lines
 
@@ -160,22 +179,26 @@ unfoldable pub label_of : List ℕ → Option (List ℕ)
 label_of word =
     if is_word (drop (length word - 1) word) (codes ":") then if_fits is_name (Some (take (length word - 1) word)) else None
 
+-- the row of a mnemonic that the version knows
+abbrev pub row_by : Version → List ℕ → Option Row
+row_by v name = if_fits (λ row. is_known v row.opcode) (row_named name)
+
 -- a mnemonic with its operands
-abbrev pub instruction_of : List ℕ → List (List ℕ) → Option Source
-instruction_of name words = then_with (row_named name) (λ row. then_with (operands_of words) (source_of row))
+abbrev pub instruction_of : Version → List ℕ → List (List ℕ) → Option Source
+instruction_of v name words = then_with (row_by v name) (λ row. then_with (operands_of words) (source_of row))
 
 -- a line that begins with a point
-abbrev pub point_line : List ℕ → List (List ℕ) → Option Line
-point_line name words = if is_word name (codes ".bytes") then option_map Code (unknown_of words) else option_map Declares (directive_of name words)
+abbrev pub point_line : Version → List ℕ → List (List ℕ) → Option Line
+point_line v name words = if is_word name (codes ".bytes") then option_map Code (unknown_of v words) else option_map Declares (directive_of name words)
 
 -- a line of one word is a label or an instruction
-abbrev pub alone : List ℕ → Option (List ℕ) → Option Line
-alone word (Some name) = Some (Label name)
-alone word None = option_map Code (instruction_of word [])
+abbrev pub alone : Version → List ℕ → Option (List ℕ) → Option Line
+alone v word (Some name) = Some (Label name)
+alone v word None = option_map Code (instruction_of v word [])
 
--- what the words of a line say, if they are of the grammar
-unfoldable pub line_of : List (List ℕ) → Option Line
-line_of [] = Some Blank
-line_of (word ∷ []) = if starts_with ◌==◌ word (codes ".") then point_line word [] else alone word (label_of word)
-line_of (word ∷ next ∷ words) =
-    if starts_with ◌==◌ word (codes ".") then point_line word (next ∷ words) else option_map Code (instruction_of word (next ∷ words))
+-- what the words of a line say in a text of the version, if they are of the grammar
+unfoldable pub line_of : Version → List (List ℕ) → Option Line
+line_of v [] = Some Blank
+line_of v (word ∷ []) = if starts_with ◌==◌ word (codes ".") then point_line v word [] else alone v word (label_of word)
+line_of v (word ∷ next ∷ words) =
+    if starts_with ◌==◌ word (codes ".") then point_line v word (next ∷ words) else option_map Code (instruction_of v word (next ∷ words))

@@ -1,19 +1,27 @@
 -- What all lines of a program's text give together: the fields of an image.
-use Rattle.std.specs.Prelude.{ℕ, suc, Bool, true, false, ◌&&◌, not, ◌==◌, nat_le, List, [], ◌∷◌, ◌++◌, length, take, Option, Some, None, is_some, if◌then◌else◌}
+use Rattle.std.specs.Prelude.{ℕ, zero, suc, Bool, true, false, ◌&&◌, not, ◌==◌, nat_le, List, [], ◌∷◌, ◌++◌, length, map, slice_get, take, Option, Some, None}
+use Rattle.std.specs.Prelude.{is_some, if◌then◌else◌}
 use Rattle.std.specs.Option.{option_map}
 use Rattle.std.specs.List.{flat_map, find, list_all}
 use Rattle.zl_code.specs.Common.{needs_named, bytes_of, instr_fault}
 use Rattle.std.specs.Cmp.Lexicographic.{pointwise}
 use Rattle.zl_rights.specs.declared.policy.Condition.{Condition}
+use Rattle.zl_code.specs.declared.image.Version.{Version}
+use Rattle.zl_code.specs.declared.image.Version.TheVariants as version
 use Rattle.zl_code.specs.declared.image.Start.{Start}
 use Rattle.zl_code.specs.declared.image.SlotArray.{SlotArray}
+use Rattle.zl_code.specs.Blocks.{blocks_at, head_of, is_it}
+use Rattle.zl_code.specs.Spells.{keep_blocks, mark_in as mark_of_bytes}
+use Rattle.zl_code.specs.declared.blocks.Mark.{Mark}
+use Rattle.zl_code.specs.declared.blocks.Mark.TheVariants as mark
 use Rattle.zl_code.specs.Limits.{most_instructions, most_starts, most_slot_arrays}
 use Rattle.zl_asm.specs.declared.directive.Directive.TheVariants as directive
 use Rattle.zl_asm.specs.Words.{lines_of, words_of, is_ascii}
-use Rattle.zl_asm.specs.Lines.{Line, Declares, Label, Code, Source, line_of, all_of, if_fits, then_with}
+use Rattle.zl_asm.specs.Lines.{Line, Blank, Declares, Label, Code, Source, line_of, all_of, if_fits, then_with}
 
 -- the fields of an image, each instruction as its 16 bytes
 pub record Listing : Type 0 where
+  pub version : Version
   pub raw : Bool
   pub memory : ℕ
   pub budget : ℕ
@@ -23,6 +31,15 @@ pub record Listing : Type 0 where
   pub code : List (List ℕ)
 
 -- ---- what stands in which lines
+
+-- the line says that the version is 2
+abbrev pub gives_version : Line → Bool
+gives_version (Declares directive.VersionTwo) = true
+gives_version _ = false
+
+-- version 1 where no line says that it is 2
+abbrev pub version_in : List Line → Version
+version_in lines = if list_all (λ l. not (gives_version l)) lines then version.One else version.Two
 
 -- the raw mark, where the line sets it
 abbrev pub mark_in : Line → List Bool
@@ -67,6 +84,11 @@ given _ usual = None
 
 -- ---- the order of lines
 
+-- the line isn't blank
+abbrev pub says : Line → Bool
+says Blank = false
+says _ = true
+
 -- the line is a directive
 abbrev pub declares : Line → Bool
 declares (Declares d) = true
@@ -78,10 +100,14 @@ is_body (Label name) = true
 is_body (Code s) = true
 is_body _ = false
 
--- no directive stands behind a label or an instruction
-unfoldable pub directives_first : List Line → Bool
-directives_first [] = true
-directives_first (line ∷ lines) = if is_body line then list_all (λ l. not (declares l)) lines else directives_first lines
+-- behind a line that passes the first test none passes the second
+unfoldable pub none_behind : (Line → Bool) → (Line → Bool) → List Line → Bool
+none_behind first later [] = true
+none_behind first later (line ∷ lines) = if first line then list_all (λ l. not (later l)) lines else none_behind first later lines
+
+-- the version stands before all else, and no directive behind a label or an instruction
+abbrev pub are_in_order : List Line → Bool
+are_in_order lines = none_behind says gives_version lines && none_behind is_body declares lines
 
 -- ---- labels
 
@@ -112,6 +138,39 @@ resolved labels s = elim s.label as (λ _. Option (List ℕ)) [
   | Some name ↦ option_map (with_target s.bytes) (position_of labels name)
 ]
 
+-- ---- counted blocks
+
+-- the instruction is an endrep, and this its innermost block
+abbrev pub closes : Option Mark → Option ℕ → ℕ → Bool
+closes (Some (mark.EndRep rep)) home r = is_it home r
+closes _ home r = false
+
+-- the last of the first so many that closes the block which begins at r
+unfoldable pub end_among : List Mark → ℕ → ℕ → Option ℕ
+end_among marks r zero = None
+end_among marks r (suc k) = if closes (slice_get marks k) (head_of (blocks_at marks k)) r then Some k else end_among marks r k
+
+-- what a rep and an endrep lead to: the end of the block, and the innermost block
+abbrev pub partner_by : Mark → Option ℕ → Option ℕ → Option ℕ
+partner_by (mark.Rep imm end) home closed = closed
+partner_by (mark.EndRep rep) home closed = home
+partner_by mark.Plain home closed = None
+
+-- the bytes lead there
+abbrev pub led_to : Option ℕ → List ℕ → List ℕ
+led_to None bytes = bytes
+led_to (Some n) bytes = with_target bytes n
+
+-- each rep and each endrep from number n on leads to the other
+unfoldable pub paired_from : Version → List Mark → ℕ → List (List ℕ) → List (List ℕ)
+paired_from v marks n [] = []
+paired_from v marks n (bytes ∷ code) =
+    led_to (partner_by (mark_of_bytes v bytes) (head_of (blocks_at marks n)) (end_among marks n (length marks))) bytes ∷ paired_from v marks (suc n) code
+
+-- the code, where each rep and each endrep leads to the other
+abbrev pub paired : Version → List (List ℕ) → List (List ℕ)
+paired v code = paired_from v (map (mark_of_bytes v) code) 0 code
+
 -- ---- the whole
 
 -- no more than an image holds, and no instruction with a fault
@@ -120,11 +179,12 @@ is_listing l =
     nat_le (length l.starts) most_starts
     && (nat_le (length l.slots) most_slot_arrays
     && (nat_le (length l.code) most_instructions
-    && list_all (λ bytes. not (is_some (instr_fault l.raw bytes))) l.code))
+    && list_all (λ bytes. not (is_some (instr_fault l.version l.raw bytes))) l.code))
 
 -- the fields together, where no directive that stands once was repeated and each label was found
 abbrev pub listing_with : List Line → Option Bool → Option ℕ → Option ℕ → Option (List (List ℕ)) → Option Listing
 listing_with lines (Some raw) (Some memory) (Some budget) (Some code) = Some (record {
+  version = version_in lines;
   raw = raw;
   memory = memory;
   budget = budget;
@@ -135,21 +195,37 @@ listing_with lines (Some raw) (Some memory) (Some budget) (Some code) = Some (re
 })
 listing_with lines _ _ _ _ = None
 
+-- the fields with the blocks of the code, if it keeps the block rule
+abbrev pub nested : Listing → Option Listing
+nested l = if_fits (λ m. keep_blocks m.version m.code) (Some (record l { code = paired l.version l.code }))
+
 -- the fields that the lines give
 unfoldable pub listing_from : List Line → Option Listing
 listing_from lines =
-    if directives_first lines && names_once (labels_from 0 lines) then
-    if_fits is_listing
+    if are_in_order lines && names_once (labels_from 0 lines) then
+    then_with
+    (if_fits is_listing
     (listing_with lines
     (given (flat_map mark_in lines) false)
     (given (flat_map memory_in lines) 0)
     (given (flat_map budget_in lines) 1)
-    (all_of (resolved (labels_from 0 lines)) (flat_map source_in lines)))
+    (all_of (resolved (labels_from 0 lines)) (flat_map source_in lines))))
+    nested
     else None
+
+-- the version of the lines behind this one
+abbrev pub version_behind : Version → Line → Version
+version_behind v said = if gives_version said then version.Two else v
+
+-- what lines say, each in the version that stands before it
+unfoldable pub lines_from : Version → List (List ℕ) → Option (List Line)
+lines_from v [] = Some []
+lines_from v (line ∷ lines) =
+    then_with (line_of v (words_of line)) (λ said. option_map (λ more. said ∷ more) (lines_from (version_behind v said) lines))
 
 -- what each line of the text says
 abbrev pub lines_said : List ℕ → Option (List Line)
-lines_said text = if is_ascii text then all_of (λ line. line_of (words_of line)) (lines_of text) else None
+lines_said text = if is_ascii text then lines_from version.One (lines_of text) else None
 
 -- the fields that a text gives, if it denotes an image
 unfoldable pub listing_of : List ℕ → Option Listing

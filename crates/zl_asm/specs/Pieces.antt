@@ -1,14 +1,15 @@
 -- The pieces of a text as the disassembler writes them, each line with its end. No public clause cites this module.
 use Rattle.std.specs.List.{flat_map}
 use Rattle.zl_code.specs.Common.{condition_name, bits, Image, is_among, reading_of}
-use Rattle.std.specs.Prelude.{ℕ, ◌≡◌, ◌<◌, Bool, false, List, [], ◌∷◌, ◌++◌, codes, map, length, take, get_or, Result, OnOk, string_bytes, if◌then◌else◌, String}
+use Rattle.std.specs.Prelude.{ℕ, ◌≡◌, ◌<◌, Bool, false, List, [], ◌++◌, codes, map, length, take, get_or, Result, OnOk, string_bytes, if◌then◌else◌, String}
 use Rattle.std.specs.Fmt.{decimal}
 use Rattle.zl_rights.specs.declared.policy.Condition.{Condition}
 use Rattle.zl_rights.specs.declared.policy.Condition.TheVariants as condition
 use Rattle.zl_code.specs.declared.image.Start.{Start}
+use Rattle.zl_code.specs.declared.image.Version.{Version}
 use Rattle.zl_code.specs.declared.image.SlotArray.{SlotArray}
 use Rattle.zl_code.specs.declared.layout.Ending.{Ending}
-use Rattle.zl_asm.specs.Canonical.{kind_text, label_text, joined, register_text, tail_texts, instr_text, is_target}
+use Rattle.zl_asm.specs.Canonical.{version_lines, kind_text, label_text, register_text, tail_texts, behind, instr_text, is_target}
 
 -- where it is done, the text has these bytes more at its end
 abbrev pub Adds : {X E Z : Type 0} → Result X E → String Z → String Z → List ℕ → Type 0
@@ -48,23 +49,20 @@ needs_text needs =
 
 -- the lines of all directives
 abbrev pub directives_text : Image → List ℕ
-directives_text i = fields_text i.raw i.memory i.budget ++ (needs_text i.needs ++ (flat_map start_text i.starts ++ flat_map slot_array_text i.slots))
-
--- operands behind others, from which the separator parts them
-abbrev pub behind : List ℕ → List (List ℕ) → List ℕ
-behind separator [] = []
-behind separator (word ∷ words) = separator ++ joined (codes ", ") (word ∷ words)
+directives_text i =
+    ended (version_lines i.version)
+    ++ (fields_text i.raw i.memory i.budget ++ (needs_text i.needs ++ (flat_map start_text i.starts ++ flat_map slot_array_text i.slots)))
 
 -- an instruction of a row with this name, so many registers and this ending
 abbrev pub laid_out : ℕ → List ℕ → ℕ → Ending → List ℕ → List ℕ
 laid_out count name registers ending bytes =
-    name ++ (codes " " ++ joined (codes ", ") (map register_text (take registers (reading_of bytes).registers) ++ tail_texts count ending (reading_of bytes)))
+    name ++ behind (codes " ") (map register_text (take registers (reading_of bytes).registers) ++ tail_texts count ending (reading_of bytes))
 
 -- the line of instruction n, and its label if it is aimed at
-abbrev pub line_text : ℕ → ℕ → Bool → List ℕ → List ℕ
-line_text count n is_target bytes = (if is_target then label_text n ++ codes ":\n" else []) ++ (instr_text count bytes ++ codes "\n")
+abbrev pub line_text : Version → ℕ → ℕ → Bool → List ℕ → List ℕ
+line_text v count n is_target bytes = (if is_target then label_text n ++ codes ":\n" else []) ++ (instr_text v count bytes ++ codes "\n")
 
 -- these marks say which of so many instructions a target of the code names
-pub record TargetsAre (targets : List Bool) (code : List (List ℕ)) (count : ℕ) : Type 0 where
+pub record TargetsAre (v : Version) (targets : List Bool) (code : List (List ℕ)) (count : ℕ) : Type 0 where
   pub len : length targets ≡ count
-  pub each : (n : ℕ) → n < count → get_or targets n false ≡ is_target code n
+  pub each : (n : ℕ) → n < count → get_or targets n false ≡ is_target v code n

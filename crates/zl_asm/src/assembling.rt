@@ -15,7 +15,8 @@ use zl_code::Image;
 ///
 /// The grammar is own profile: a line holds a directive, a label `name:`, an instruction or nothing,
 /// and what stands behind a semicolon doesn't count. The error has the first line that is at fault,
-/// counted from 1, and why; a line whose label is missing comes behind all others. Of these a clause
+/// counted from 1, and why; a line whose label is missing comes behind all others, and
+/// counted blocks that don't nest behind that. Of these a clause
 /// says only that the text denotes no image. `NoMemory` says nothing of the text.
 pub fn assemble(alloc: Global, text: &str) -> Result<Image, AsmFault>
     ensures found { IfOk result (λ image. Denotes text.now image) }
@@ -36,7 +37,7 @@ pub fn assemble_bytes(alloc: Global, text: &[u8]) -> Result<Image, AsmFault>
     ensures only { (i : ImageValue) → Denotes text.now i
         → MatchResult result (λ image. image ≡ i) (λ fault. fault.cause ≡ NoMemory) }
 {
-    read_lines(alloc, text)?.into_image()
+    read_lines(alloc, text)?.into_image(alloc)
 }
 
 /// What all lines of the text say.

@@ -3,7 +3,7 @@ ghost use Rattle.std.specs.Result.{result_ok};
 ghost use Rattle.zl_asm.specs.Words.{number_of};
 ghost use Rattle.zl_code.specs.Limits.{most_places};
 ghost use Rattle.zl_asm.specs.Values.{texts};
-ghost use Rattle.zl_asm.specs.Lines.{number_within, need_of, kind_of, start_with, slot_array_with, directive_of};
+ghost use Rattle.zl_asm.specs.Lines.{number_within, need_of, kind_of, start_with, slot_array_with, version_with, directive_of};
 
 use crate::fault::AsmCause;
 use crate::numbers::{number, spells_number};
@@ -16,6 +16,8 @@ use zl_rights::{Condition, Kind, Rights};
 /// A line that declares a field of the image.
 #[derive(Clone, Copy)]
 pub(crate) enum Directive {
+    /// That the image has version 2; one of version 1 has no such line.
+    VersionTwo,
     Raw,
     Memory(u32),
     Budget(u32),
@@ -61,7 +63,9 @@ pub(crate) fn directive_of(name: &[u8], operands: &[&[u8]]) -> Result<Directive,
 fn directive_with(name: &[u8], operand: &[u8]) -> Result<Directive, AsmCause>
     ensures { result_ok result ≡ directive_of name.now (operand.now ∷ []) }
 {
-    if is(name, b".memory") {
+    if is(name, b".version") {
+        version_of(operand)
+    } else if is(name, b".memory") {
         Ok(Directive::Memory(number_within(0, Image::MOST_MEMORY, operand)?))
     } else if is(name, b".budget") {
         Ok(Directive::Budget(number_within(1, Image::MOST_BUDGET, operand)?))
@@ -74,6 +78,9 @@ fn directive_with(name: &[u8], operand: &[u8]) -> Result<Directive, AsmCause>
 
 /// The cause of operands that no directive of the name has.
 fn misplaced(name: &[u8], operands: &[&[u8]]) -> AsmCause {
+    if is(name, b".version") {
+        return AsmCause::Operand;
+    }
     let names: &[&[u8]] = &[
         b".raw", b".memory", b".budget", b".need", b".start", b".slots",
     ];
@@ -87,6 +94,16 @@ fn misplaced(name: &[u8], operands: &[&[u8]]) -> AsmCause {
         }
     }
     AsmCause::Operand
+}
+
+/// The directive of a version, which is 2.
+fn version_of(word: &[u8]) -> Result<Directive, AsmCause>
+    ensures { result_ok result ≡ version_with word.now }
+{
+    match number(word) {
+        Some(number) if number == 2 => Ok(Directive::VersionTwo),
+        _ => Err(AsmCause::Operand),
+    }
 }
 
 /// The number of the word, from least to most.

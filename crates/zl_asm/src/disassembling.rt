@@ -2,17 +2,30 @@
 
 ghost use Rattle.std.specs.Prelude.{◌≡◌, ◌≤◌, ◌<◌, ◌++◌, ◌∷◌, [], codes, map, filter, not, ◌==◌, length, IfOk, IfSome, string_bytes, ℕ, ◌||◌, true, false, get_or, slice_index, IfNone, if◌then◌else◌};
 ghost use Rattle.std.specs.List.{flat_map};
+ghost use Rattle.std.specs.Option.{option_map};
 ghost use Rattle.zl_code.specs.Limits.{most_registers, no_register};
-ghost use Rattle.zl_code.specs.Instructions.{row_of};
+ghost use Rattle.zl_code.specs.Instructions.{row_value};
+ghost use Rattle.zl_asm.specs.Lines.{written};
 ghost use Rattle.zl_code.specs.Spells.{instr_bytes, reading_of};
 ghost use Rattle.zl_asm.specs.Denotes.{Denotes};
-ghost use Rattle.zl_asm.specs.Canonical.{kind_text, joined, register_text, target_text, tail_texts, instr_text, hex_text, aims, aims_at, code_lines, text_of};
-ghost use Rattle.zl_asm.specs.Pieces.{Adds, ended, fields_text, need_if_among, needs_text, start_text, slot_array_text, directives_text, behind, laid_out, line_text, TargetsAre};
+ghost use Rattle.zl_asm.specs.Canonical.{version_lines, kind_text, register_text, target_text, tail_texts, behind, instr_text, hex_text, aims, aims_at, code_lines, row_at, text_of};
+ghost use Rattle.zl_asm.specs.Pieces.{Adds, ended, fields_text, need_if_among, needs_text, start_text, slot_array_text, directives_text, laid_out, line_text, TargetsAre};
 
+use crate::operands::written;
 use bitflags::Flags;
 use std::alloc::{AllocError, Global};
-use zl_code::{Ending, HandleList, Image, Instr, InstrBytes, Row, SlotArray, Start};
+use zl_code::{Ending, HandleList, Image, Instr, InstrBytes, Row, SlotArray, Start, Version};
 use zl_rights::{Condition, Kind};
+
+/// Adds the line of the version, if it isn't 1.
+fn push_version(text: &mut String, version: Version) -> Result<(), AllocError>
+    ensures { Adds result text.old text.new (ended (version_lines version)) }
+{
+    match version {
+        Version::One => Ok(()),
+        Version::Two => text.push_str(".version 2\n"),
+    }
+}
 
 /// Adds the marks and numbers of the image.
 fn push_fields(text: &mut String, image: &Image) -> Result<(), AllocError>
@@ -102,6 +115,7 @@ fn push_slots(text: &mut String, slots: &[SlotArray]) -> Result<(), AllocError>
 fn push_directives(text: &mut String, image: &Image) -> Result<(), AllocError>
     ensures { Adds result text.old text.new (directives_text image.now) }
 {
+    push_version(text, image.version())?;
     push_fields(text, image)?;
     push_needs(text, image)?;
     push_starts(text, image.starts())?;
@@ -136,11 +150,11 @@ fn push_target(text: &mut String, count: usize, target: u32) -> Result<(), Alloc
     }
 }
 
-/// What stands between so many registers and the operand behind them.
+/// What stands between a mnemonic with so many registers and the operand behind them.
 fn separator_behind(registers: usize) -> &'static str
-    ensures { result.now ≡ (if registers == 0 then [] else codes ", ") }
+    ensures { result.now ≡ (if registers == 0 then codes " " else codes ", ") }
 {
-    if registers == 0 { "" } else { ", " }
+    if registers == 0 { " " } else { ", " }
 }
 
 /// Adds the register behind the separator.
@@ -150,10 +164,10 @@ fn push_register(text: &mut String, separator: &str, register: u8) -> Result<(),
     write!(text, "{separator}r{register}")
 }
 
-/// Adds the registers, with commas between them.
+/// Adds the registers behind a mnemonic.
 fn push_registers(text: &mut String, registers: &[u8]) -> Result<(), AllocError>
     ensures { Adds result text.old text.new
-        (joined (codes ", ") (map register_text registers.now)) }
+        (behind (codes " ") (map register_text registers.now)) }
 {
     for (place, register) in registers.iter().enumerate() {
         push_register(text, separator_behind(place), *register)?;
@@ -215,15 +229,14 @@ fn push_row(
 ) -> Result<(), AllocError>
     requires { length row.columns.now.fields.now ≤ most_registers }
     ensures { Adds result text.old text.new
-        (laid_out count row.name.now (length row.columns.now.fields.now) row.columns.now.ending
-        bytes) }
+        (laid_out count row.name.now (length row.columns.now.fields.now)
+        (written (row_value row)) bytes) }
 {
     let parts = InstrBytes::split(bytes);
     let registers = row.registers();
     text.push_str(row.name)?;
-    text.push_str(" ")?;
     push_registers(text, &parts.registers[..registers])?;
-    let ending = row.columns.ending;
+    let ending = written(&row);
     push_tail(text, separator_behind(registers), count, ending, bytes)?;
     Ok(())
 }
@@ -236,11 +249,28 @@ fn push_unknown(text: &mut String, bytes: [u8; Instr::LEN]) -> Result<(), AllocE
     push_bytes(text, &bytes)
 }
 
-/// Adds an instruction, one of so many.
-fn push_instr(text: &mut String, count: usize, bytes: [u8; Instr::LEN]) -> Result<(), AllocError>
-    ensures { Adds result text.old text.new (instr_text count bytes) }
+/// The row of the opcode, if the version knows it.
+fn row_at(version: Version, opcode: u8) -> Option<Row>
+    ensures row { option_map row_value result ≡ row_at version opcode }
+    ensures registers { IfSome result (λ row. length row.columns.now.fields.now ≤ most_registers) }
 {
-    match Row::of_opcode(bytes[0]) {
+    if version.knows(opcode) {
+        Row::of_opcode(opcode)
+    } else {
+        None
+    }
+}
+
+/// Adds an instruction, one of so many.
+fn push_instr(
+    text: &mut String,
+    version: Version,
+    count: usize,
+    bytes: [u8; Instr::LEN],
+) -> Result<(), AllocError>
+    ensures { Adds result text.old text.new (instr_text version count bytes) }
+{
+    match row_at(version, bytes[0]) {
         Some(row) => push_row(text, count, row, bytes),
         None => push_unknown(text, bytes),
     }
@@ -249,52 +279,59 @@ fn push_instr(text: &mut String, count: usize, bytes: [u8; Instr::LEN]) -> Resul
 /// Adds the line of instruction n, and its label if a jump goes to it.
 fn push_line(
     text: &mut String,
+    version: Version,
     count: usize,
     n: usize,
     is_target: bool,
     instr: Instr,
 ) -> Result<(), AllocError>
-    ensures { Adds result text.old text.new (line_text count n is_target (instr_bytes instr)) }
+    ensures { Adds result text.old text.new (line_text version count n is_target (instr_bytes instr)) }
 {
     if is_target {
         write!(text, "l{n}:\n")?;
     }
-    push_instr(text, count, instr.to_bytes())?;
+    push_instr(text, version, count, instr.to_bytes())?;
     text.push_str("\n")
 }
 
 /// Adds the lines of the instructions; `targets` says which of them a target names.
-fn push_code(text: &mut String, code: &[Instr], targets: &[bool]) -> Result<(), AllocError>
-    requires { TargetsAre targets.now (map instr_bytes code.now) (length code.now) }
-    ensures { Adds result text.old text.new (ended (code_lines (map instr_bytes code.now))) }
+fn push_code(
+    text: &mut String,
+    version: Version,
+    code: &[Instr],
+    targets: &[bool],
+) -> Result<(), AllocError>
+    requires { TargetsAre version targets.now (map instr_bytes code.now) (length code.now) }
+    ensures { Adds result text.old text.new (ended (code_lines version (map instr_bytes code.now))) }
 {
     for (n, instr) in code.iter().enumerate() {
-        push_line(text, code.len(), n, targets[n], *instr)?;
+        push_line(text, version, code.len(), n, targets[n], *instr)?;
     }
     Ok(())
 }
 
-/// The target of the instruction, if it has one.
-fn target_of(bytes: [u8; Instr::LEN]) -> Option<u32>
+/// The target of the instruction, if it is written with one.
+fn target_of(version: Version, bytes: [u8; Instr::LEN]) -> Option<u32>
     ensures target { IfSome result (λ target.
-        (aims (row_of (slice_index bytes 0)) ≡ true) × (target ≡ (reading_of bytes).target)) }
-    ensures none { IfNone result (aims (row_of (slice_index bytes 0)) ≡ false) }
+        (aims (row_at version (slice_index bytes 0)) ≡ true) × (target ≡ (reading_of bytes).target)) }
+    ensures none { IfNone result (aims (row_at version (slice_index bytes 0)) ≡ false) }
 {
     let target = InstrBytes::split(bytes).target();
-    match Row::of_opcode(bytes[0])?.columns.ending {
+    let row = row_at(version, bytes[0])?;
+    match written(&row) {
         Ending::Target | Ending::Both => Some(target),
         Ending::Nothing | Ending::Number | Ending::Room | Ending::Handles => None,
     }
 }
 
 /// Marks the target of the instruction, where it is one of those that are marked so.
-fn mark(targets: &mut Vec<bool>, instr: Instr)
+fn mark(targets: &mut Vec<bool>, version: Version, instr: Instr)
     ensures len { length targets.new.items ≡ length targets.old.items }
     ensures marked { (n : ℕ) → n < length targets.old.items
         → get_or targets.new.items n false
-        ≡ (get_or targets.old.items n false || aims_at n (instr_bytes instr)) }
+        ≡ (get_or targets.old.items n false || aims_at version n (instr_bytes instr)) }
 {
-    let Some(target) = target_of(instr.to_bytes()) else {
+    let Some(target) = target_of(version, instr.to_bytes()) else {
         return;
     };
     let place = target as usize;
@@ -304,21 +341,21 @@ fn mark(targets: &mut Vec<bool>, instr: Instr)
 }
 
 /// Which of the instructions a target names.
-fn targets_of(alloc: Global, code: &[Instr]) -> Result<Vec<bool>, AllocError>
+fn targets_of(alloc: Global, version: Version, code: &[Instr]) -> Result<Vec<bool>, AllocError>
     ensures { IfOk result (λ targets.
-        TargetsAre targets.items (map instr_bytes code.now) (length code.now)) }
+        TargetsAre version targets.items (map instr_bytes code.now) (length code.now)) }
 {
     let mut targets = vec![in alloc; false; code.len()]?;
     for instr in code {
-        mark(&mut targets, *instr);
+        mark(&mut targets, version, *instr);
     }
     Ok(targets)
 }
 
-/// The text of the image: its directives in the order of the grammar, with `.memory` and `.budget`
-/// always there, and then its instructions. One that a jump goes to has its label on the line
-/// above: `l` with its number, counted from 0. The error says that memory was refused. The layout
-/// is own profile.
+/// The text of the image: its directives in the order of the grammar, with `.version 2` for an image
+/// of that version only and `.memory` and `.budget` always there, and then its instructions. One that
+/// a jump goes to has its label on the line above: `l` with its number, counted from 0. The error says
+/// that memory was refused. The layout is own profile.
 pub fn disassemble(alloc: Global, image: &Image) -> Result<String, AllocError>
     // It is laid out so.
     ensures text { IfOk result (λ text. string_bytes text ≡ text_of image.now) }
@@ -328,7 +365,7 @@ pub fn disassemble(alloc: Global, image: &Image) -> Result<String, AllocError>
     let mut text = String::new(alloc);
     push_directives(&mut text, image)?;
     let code = image.code();
-    let targets = targets_of(alloc, code)?;
-    push_code(&mut text, code, targets.as_slice())?;
+    let targets = targets_of(alloc, image.version(), code)?;
+    push_code(&mut text, image.version(), code, targets.as_slice())?;
     Ok(text)
 }

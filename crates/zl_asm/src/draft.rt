@@ -1,5 +1,5 @@
 //! What the lines of a text have said so far.
-ghost use Rattle.std.specs.Prelude.{◌≡◌, ◌≤◌, [], length, IsTrue, All};
+ghost use Rattle.std.specs.Prelude.{◌≡◌, ◌≤◌, ◌||◌, ◌==◌, [], true, length, IsTrue, All};
 ghost use Rattle.zl_code.specs.Limits.{most_instructions, most_memory, most_budget};
 ghost use Rattle.zl_asm.specs.Kept.{is_kept_in_range};
 
@@ -7,11 +7,12 @@ use crate::directive::Directive;
 use crate::fault::{AsmCause, AsmFault};
 use crate::label_map::{Labels, TextHasher};
 use crate::line::{Line, Source, line_of};
+use crate::pairing::nested;
 use crate::resolving::{Kept, kept_of, push_kept};
 use crate::words::{is_ascii, split_words};
 use indexmap::IndexMap;
 use std::alloc::Global;
-use zl_code::{Image, SlotArray, Start};
+use zl_code::{Image, Instr, SlotArray, Start, Version};
 
 /// What the lines have said so far.
 #[derive(Drop)]
@@ -20,13 +21,16 @@ pub(crate) struct Draft<'a> {
     image: Image,
     has_memory: bool,
     has_budget: bool,
+    /// Whether a line was read that isn't blank, behind which no line gives the version.
+    has_begun: bool,
     /// Whether a label or an instruction was read, behind which no directive stands.
     has_body: bool,
     labels: Labels<'a>,
     sources: Vec<SourceLine<'a>>,
     ghost few: { length sources.items ≤ most_instructions },
     ghost empty: { image.code ≡ [] },
-    ghost fit: { All (λ s. IsTrue (is_kept_in_range image.raw s.kept)) sources.items },
+    ghost unbegun: { (has_begun || (length sources.items == 0)) ≡ true },
+    ghost fit: { All (λ s. IsTrue (is_kept_in_range image.version image.raw s.kept)) sources.items },
 }
 
 /// An instruction and the number of its line.
@@ -42,7 +46,7 @@ impl<'a> Draft<'a> {
     ghost use Rattle.std.specs.Prelude.{◌⊎◌, false, OnOk, OnErr, IfOk, IfErr};
     ghost use Rattle.zl_asm.specs.declared.directive.Directive.TheVariants as directives;
     ghost use Rattle.zl_asm.specs.declared.fault.AsmCause.TheVariants.{NoMemory};
-    ghost use Rattle.zl_asm.specs.Draft.{held_by, IsHeldOf, Holds, Refuses, Reads, Stops, Gives, GivesNone, is_directive_in_range};
+    ghost use Rattle.zl_asm.specs.Draft.{held_by, IsHeldOf, Holds, Refuses, Reads, Stops, IsCodeOf, Gives, GivesNone, is_directive_in_range};
     ghost use Rattle.zl_asm.specs.Causes.{OnRefusal};
     ghost use Rattle.zl_asm.specs.Lines.{Declares, Label, Code};
     ghost use Rattle.zl_asm.specs.Values.{source_value};
@@ -57,6 +61,7 @@ impl<'a> Draft<'a> {
             image: Image::new(alloc),
             has_memory: false,
             has_budget: false,
+            has_begun: false,
             has_body: false,
             labels: IndexMap::with_hasher(alloc, TextHasher::new(text)),
             sources: Vec::new(alloc),
@@ -74,16 +79,34 @@ impl<'a> Draft<'a> {
             return Err(AsmCause::Operand);
         }
         match directive {
+            Directive::VersionTwo => self.declare_version(),
             Directive::Raw => self.declare_mark(),
             Directive::Memory(bytes) => self.declare_memory(bytes),
             Directive::Budget(steps) => self.declare_budget(steps),
             Directive::Need(condition) => {
                 self.image.add_need(condition);
+                self.has_begun = true;
                 Ok(())
             }
             Directive::Start(start) => self.declare_start(start),
             Directive::Slots(array) => self.declare_slot_array(array),
         }
+    }
+
+    /// Takes version 2.
+    fn declare_version(&mut self) -> Result<(), AsmCause>
+        requires first { self.old.has_body ≡ false }
+        ensures held { OnOk result
+            (Holds (held_by self.old) (Declares directives.VersionTwo) (held_by self.new)) }
+        ensures refused { OnErr result
+            (Refuses (held_by self.old) (Declares directives.VersionTwo)) }
+    {
+        if self.has_begun {
+            return Err(AsmCause::Operand);
+        }
+        self.has_begun = true;
+        self.image.set_version(Version::Two);
+        Ok(())
     }
 
     /// Takes the raw mark.
@@ -97,6 +120,7 @@ impl<'a> Draft<'a> {
             return Err(AsmCause::Operand);
         }
         self.image.mark_raw();
+        self.has_begun = true;
         Ok(())
     }
 
@@ -114,6 +138,7 @@ impl<'a> Draft<'a> {
         }
         self.has_memory = true;
         self.image.set_memory(bytes);
+        self.has_begun = true;
         Ok(())
     }
 
@@ -132,6 +157,7 @@ impl<'a> Draft<'a> {
         }
         self.has_budget = true;
         self.image.set_budget(steps);
+        self.has_begun = true;
         Ok(())
     }
 
@@ -148,6 +174,7 @@ impl<'a> Draft<'a> {
             return Err(AsmCause::Limit);
         }
         self.image.push_start(start)?;
+        self.has_begun = true;
         Ok(())
     }
 
@@ -164,6 +191,7 @@ impl<'a> Draft<'a> {
             return Err(AsmCause::Limit);
         }
         self.image.push_slot_array(array)?;
+        self.has_begun = true;
         Ok(())
     }
 
@@ -176,6 +204,7 @@ impl<'a> Draft<'a> {
             return Err(AsmCause::LabelTwice);
         }
         self.labels.insert(name, self.sources.len() as u32)?;
+        self.has_begun = true;
         self.has_body = true;
         Ok(())
     }
@@ -190,10 +219,11 @@ impl<'a> Draft<'a> {
         if self.sources.len() >= Image::MOST_INSTRUCTIONS {
             return Err(AsmCause::Limit);
         }
-        match kept_of(self.image.is_raw(), &source) {
+        match kept_of(self.image.version(), self.image.is_raw(), &source) {
             Ok(kept) => {
                 self.sources
                     .extend_from_slice(&[SourceLine { line, kept }])?;
+                self.has_begun = true;
                 self.has_body = true;
                 Ok(())
             }
@@ -216,7 +246,7 @@ impl<'a> Draft<'a> {
             return Err(AsmCause::Token);
         }
         split_words(words, line)?;
-        match line_of(words, operands)? {
+        match line_of(self.image.version(), words, operands)? {
             Line::Blank => Ok(()),
             Line::Declares(directive) => self.declare(directive),
             Line::Label(name) => self.push_label(name),
@@ -224,25 +254,53 @@ impl<'a> Draft<'a> {
         }
     }
 
+    /// The instructions of all lines, before their blocks are paired.
+    fn code(&self, alloc: Global) -> Result<Vec<Instr>, AsmFault>
+        ensures whole { IfOk result (λ code. IsCodeOf (held_by self.now) code.items) }
+        ensures few { IfOk result (λ code. length code.items ≤ most_instructions) }
+        ensures refused { IfErr result
+            (λ fault. (fault.cause ≡ NoMemory) ⊎ GivesNone (held_by self.now)) }
+    {
+        let version = self.image.version();
+        let raw = self.image.is_raw();
+        let mut code = Vec::new(alloc);
+        while let Some(entry) = self.sources.get(code.len()) {
+            if let Err(cause) = push_kept(&mut code, &self.labels, version, raw, &entry.kept) {
+                let line = entry.line;
+                return Err(AsmFault { line, cause });
+            }
+        }
+        Ok(code)
+    }
+
+    /// The line of the instruction of this number, or else the first one.
+    fn line_at(&self, place: usize) -> u64 {
+        match self.sources.get(place) {
+            Some(entry) => entry.line,
+            None => 1,
+        }
+    }
+
     /// The image that all lines give.
-    pub(crate) fn into_image(self) -> Result<Image, AsmFault>
+    pub(crate) fn into_image(self, alloc: Global) -> Result<Image, AsmFault>
         ensures given { IfOk result (λ image. Gives (held_by self.entry) image) }
         ensures in_range { IfOk result (λ image. IsTrue (is_in_range image)) }
         ensures refused { IfErr result
             (λ fault. (fault.cause ≡ NoMemory) ⊎ GivesNone (held_by self.entry)) }
     {
-        let Draft {
-            mut image,
-            labels,
-            sources,
-            ..
-        } = self;
-        while let Some(entry) = sources.get(image.len()) {
-            if let Err(cause) = push_kept(&mut image, &labels, &entry.kept) {
-                let line = entry.line;
-                return Err(AsmFault { line, cause });
+        let code = self.code(alloc)?;
+        match nested(alloc, &code) {
+            Ok(nested) => {
+                let Draft { mut image, .. } = self;
+                image.set_code(nested);
+                // Asked for what it says of any image: each field is in its range.
+                let _ = image.len();
+                Ok(image)
             }
+            Err(breach) => Err(AsmFault {
+                line: self.line_at(breach.place),
+                cause: breach.cause,
+            }),
         }
-        Ok(image)
     }
 }

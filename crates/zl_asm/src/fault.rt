@@ -18,6 +18,7 @@ pub enum AsmCause {
     LabelMissing,
     /// A wrong count, class or range of operands; rights outside the default of the kind; a
     /// condition that no image can need; a directive twice, or behind a label or an instruction;
+    /// `.version` of another number than 2, or behind another directive;
     /// `.bytes` of a known opcode, or without `.raw`.
     Operand,
     /// A number outside a limit of the image, or one more instruction, start handle or slot array
@@ -25,6 +26,9 @@ pub enum AsmCause {
     Limit,
     /// Memory was refused.
     NoMemory,
+    /// A `rep` or `endrep` that nests with no other, a fifth block in four others, a count outside 1 to
+    /// 1,000,000, or a jump into a block or out of one.
+    Block,
 }
 
 /// The line of a text that is at fault, counted from 1, and why. Own profile.
@@ -47,6 +51,7 @@ impl AsmCause {
             AsmCause::Operand => "Operand",
             AsmCause::Limit => "Limit",
             AsmCause::NoMemory => "NoMemory",
+            AsmCause::Block => "Block",
         }
     }
 }

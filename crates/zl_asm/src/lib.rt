@@ -20,6 +20,7 @@ pub mod laws;
 mod line;
 pub mod numbers;
 mod operands;
+mod pairing;
 mod resolving;
 pub mod words;
 

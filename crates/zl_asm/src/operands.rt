@@ -3,7 +3,7 @@ ghost use Rattle.std.specs.Prelude.{◌≡◌, ◌≤◌, ◌++◌, length, take
 ghost use Rattle.std.specs.Option.{option_map};
 ghost use Rattle.std.specs.Result.{result_ok};
 ghost use Rattle.zl_asm.specs.Words.{number_of, register_of};
-ghost use Rattle.zl_asm.specs.Lines.{operands_of, all_of, tail, tail_to, tail_of, registers_of, source_of};
+ghost use Rattle.zl_asm.specs.Lines.{operands_of, all_of, tail, tail_to, tail_of, registers_of, written, source_of};
 ghost use Rattle.zl_asm.specs.Values.{texts, tail_value, source_value};
 ghost use Rattle.zl_code.specs.declared.layout.Ending.TheVariants as ending;
 ghost use Rattle.zl_asm.specs.Causes.{OnRefusal};
@@ -14,7 +14,7 @@ use crate::fault::AsmCause;
 use crate::line::Source;
 use crate::numbers::{is_name, number, register};
 use crate::words::is;
-use zl_code::{Ending, HandleList, InstrBytes, Row};
+use zl_code::{Ending, HandleList, InstrBytes, Row, Version};
 
 /// What stands behind the registers of an instruction: its last eight bytes, with the target 0
 /// where a label names it.
@@ -137,6 +137,20 @@ fn tail_of<'a>(ending: Ending, operands: &[&'a [u8]]) -> Result<Tail<'a>, AsmCau
     }
 }
 
+/// What the text has behind the registers: a rep and an endrep are written without their targets.
+pub(crate) fn written(row: &Row) -> Ending
+    ensures { result ≡ written (row_value row.now) }
+{
+    if Version::One.knows(row.opcode) {
+        return row.columns.ending;
+    }
+    match row.columns.ending {
+        Ending::Both => Ending::Number,
+        Ending::Target => Ending::Nothing,
+        ending => ending,
+    }
+}
+
 /// The instruction of the row with these operands, its registers first.
 #[tactic(auto, unfolding(crate::specs::Lines::source_of))]
 pub(crate) fn source_of<'a>(row: &Row, operands: &[&'a [u8]]) -> Result<Source<'a>, AsmCause>
@@ -151,7 +165,7 @@ pub(crate) fn source_of<'a>(row: &Row, operands: &[&'a [u8]]) -> Result<Source<'
     let (registers, rest) = operands.split_at(count);
     let mut places = [0; InstrBytes::REGISTERS];
     put_registers(&mut places, registers)?;
-    let tail = tail_of(row.columns.ending, rest)?;
+    let tail = tail_of(written(row), rest)?;
     let last = tail.bytes;
     let parts = InstrBytes {
         opcode: row.opcode,

@@ -1,7 +1,6 @@
 //! From the instruction of a line to that of an image.
-ghost use Rattle.std.specs.Prelude.{◌≡◌, ◌<◌, length, true, false, None, is_some, IsTrue, OnOk, IfOk, IfErr, Some};
+ghost use Rattle.std.specs.Prelude.{◌≡◌, true, false, None, is_some, IsTrue, OnOk, IfOk, IfErr, Some};
 ghost use Rattle.zl_code.specs.Spells.{instr_bytes, instr_fault, is_instr_in_range};
-ghost use Rattle.zl_code.specs.Limits.{most_instructions};
 ghost use Rattle.zl_asm.specs.Causes.{OnRefusal};
 ghost use Rattle.zl_asm.specs.Kept.{kept_value, is_kept_in_range, is_fine};
 ghost use Rattle.zl_asm.specs.Draft.{labels_shown, Pushes};
@@ -11,7 +10,7 @@ ghost use Rattle.zl_asm.specs.Values.{source_value};
 use crate::fault::AsmCause;
 use crate::label_map::Labels;
 use crate::line::Source;
-use zl_code::{Image, Instr, InstrBytes};
+use zl_code::{Instr, InstrBytes, Version};
 
 /// An instruction as it is kept until all labels are known.
 #[derive(Clone, Copy)]
@@ -23,12 +22,12 @@ pub(crate) enum Kept<'a> {
 }
 
 /// The instruction of these bytes. `Operand` where a field is out of its range.
-fn decoded(raw: bool, bytes: [u8; Instr::LEN]) -> Result<Instr, AsmCause>
+fn decoded(version: Version, raw: bool, bytes: [u8; Instr::LEN]) -> Result<Instr, AsmCause>
     ensures bytes { IfOk result (λ instr. instr_bytes instr ≡ bytes) }
-    ensures in_range { IfOk result (λ instr. IsTrue (is_instr_in_range raw instr)) }
-    ensures refused { IfErr result (λ _. is_some (instr_fault raw bytes) ≡ true) }
+    ensures in_range { IfOk result (λ instr. IsTrue (is_instr_in_range version raw instr)) }
+    ensures refused { IfErr result (λ _. is_some (instr_fault version raw bytes) ≡ true) }
 {
-    match Instr::from_bytes(raw, bytes) {
+    match Instr::from_bytes(version, raw, bytes) {
         Ok(instr) => Ok(instr),
         Err(_) => Err(AsmCause::Operand),
     }
@@ -36,14 +35,18 @@ fn decoded(raw: bool, bytes: [u8; Instr::LEN]) -> Result<Instr, AsmCause>
 
 /// What is kept of the instruction of a line. `Operand` where it names no label, and a field is out
 /// of its range.
-pub(crate) fn kept_of<'a>(raw: bool, source: &Source<'a>) -> Result<Kept<'a>, AsmCause>
+pub(crate) fn kept_of<'a>(
+    version: Version,
+    raw: bool,
+    source: &Source<'a>,
+) -> Result<Kept<'a>, AsmCause>
     ensures same { IfOk result (λ kept. kept_value kept ≡ source_value source.now) }
-    ensures in_range { IfOk result (λ kept. IsTrue (is_kept_in_range raw kept)) }
+    ensures in_range { IfOk result (λ kept. IsTrue (is_kept_in_range version raw kept)) }
     ensures refused { IfErr result (λ _. (source.now.label ≡ None)
-        × (is_some (instr_fault raw source.now.bytes) ≡ true)) }
+        × (is_some (instr_fault version raw source.now.bytes) ≡ true)) }
 {
     match source.label {
-        None => Ok(Kept::Whole(decoded(raw, source.bytes)?)),
+        None => Ok(Kept::Whole(decoded(version, raw, source.bytes)?)),
         Some(label) => Ok(Kept::Open(source.bytes, label)),
     }
 }
@@ -60,36 +63,42 @@ fn with_target(bytes: [u8; Instr::LEN], target: u32) -> [u8; Instr::LEN]
 
 /// The instruction, with the number for which its label stands. `LabelMissing` where no label has
 /// the name, and `Operand` where a field is out of its range.
-fn instr_of(labels: &Labels, raw: bool, kept: &Kept) -> Result<Instr, AsmCause>
-    requires { IsTrue (is_kept_in_range raw kept.now) }
+fn instr_of(labels: &Labels, version: Version, raw: bool, kept: &Kept) -> Result<Instr, AsmCause>
+    requires { IsTrue (is_kept_in_range version raw kept.now) }
     ensures found { IfOk result (λ instr.
         listing.resolved (labels_shown labels.now.entries) (kept_value kept.now)
         ≡ Some (instr_bytes instr)) }
-    ensures in_range { IfOk result (λ instr. IsTrue (is_instr_in_range raw instr)) }
-    ensures refused { IfErr result (λ _. is_fine raw
+    ensures in_range { IfOk result (λ instr. IsTrue (is_instr_in_range version raw instr)) }
+    ensures refused { IfErr result (λ _. is_fine version raw
         (listing.resolved (labels_shown labels.now.entries) (kept_value kept.now)) ≡ false) }
 {
     match kept {
         Kept::Whole(instr) => Ok(*instr),
         Kept::Open(bytes, label) => match labels.get(*label) {
-            Some(target) => decoded(raw, with_target(*bytes, *target)),
+            Some(target) => decoded(version, raw, with_target(*bytes, *target)),
             None => Err(AsmCause::LabelMissing),
         },
     }
 }
 
-/// Adds the instruction behind the others, of which there are fewer than 4,096.
-pub(crate) fn push_kept(image: &mut Image, labels: &Labels, kept: &Kept) -> Result<(), AsmCause>
-    requires room { length image.old.code < most_instructions }
-    requires in_range { IsTrue (is_kept_in_range image.old.raw kept.now) }
-    ensures pushed { OnOk result (Pushes image.old
-        (listing.resolved (labels_shown labels.now.entries) (kept_value kept.now)) image.new) }
-    ensures refused { OnRefusal result (is_fine image.old.raw
+/// Adds the instruction behind the others.
+pub(crate) fn push_kept(
+    code: &mut Vec<Instr>,
+    labels: &Labels,
+    version: Version,
+    raw: bool,
+    kept: &Kept,
+) -> Result<(), AsmCause>
+    requires { IsTrue (is_kept_in_range version raw kept.now) }
+    ensures pushed { OnOk result (Pushes version raw code.old.items
+        (listing.resolved (labels_shown labels.now.entries) (kept_value kept.now)) code.new.items) }
+    ensures refused { OnRefusal result (is_fine version raw
         (listing.resolved (labels_shown labels.now.entries) (kept_value kept.now)) ≡ false) }
 {
-    match instr_of(labels, image.is_raw(), kept) {
+    match instr_of(labels, version, raw, kept) {
         Ok(instr) => {
-            image.push_instr(instr)?;
+            // Not `push`, whose error would hand the instruction back.
+            code.extend_from_slice(&[instr])?;
             Ok(())
         }
         Err(cause) => Err(cause),

@@ -12,9 +12,9 @@ loop-n-preserved c =
     let within : n < length code = omega (arith, len, c.loop-n-test.true) in
     let here : get_or code n bytes ≡ bytes =
     get_or-map instr_bytes c.args.code.now n c.index-code-n.result bytes c.loop-n-test.true ∙ ap instr_bytes (sym c.index-code-n.is) in
-    let marked : get_or c.args.targets.now n false ≡ is_target code n = c.requires.each n c.loop-n-test.true in
-    line_written code n bytes within _ (string_bytes c.loop-n.text) _ c.loop-n.invariant
-    ((c.in_ok-push_line.ensures {u = tt}) ∙ (λ i. string_bytes c.loop-n.text ++ line_text (sym len i) n (marked i) (sym here i)))
+    let marked : get_or c.args.targets.now n false ≡ is_target c.args.version code n = c.requires.each n c.loop-n-test.true in
+    line_written c.args.version code n bytes within _ (string_bytes c.loop-n.text) _ c.loop-n.invariant
+    ((c.in_ok-push_line.ensures {u = tt}) ∙ (λ i. string_bytes c.loop-n.text ++ line_text c.args.version (sym len i) n (marked i) (sym here i)))
 
 pub returns : goal.returns
 unfolding code_lines_from
@@ -22,5 +22,6 @@ returns c =
     let code = map instr_bytes c.args.code.now in
     let over : length code ≤ c.loop-n.n = omega (arith, length-map c.args.code.now instr_bytes, c.loop-n-test.false) in
     sym (append-nil (string_bytes c.loop-n.text))
-    ∙ ap (λ (rest : List (List ℕ)). string_bytes c.loop-n.text ++ ended (code_lines_from code c.loop-n.n rest)) (sym (drop_all c.loop-n.n code over))
+    ∙ ap (λ (rest : List (List ℕ)). string_bytes c.loop-n.text ++ ended (code_lines_from c.args.version code c.loop-n.n rest)) (sym
+    (drop_all c.loop-n.n code over))
     ∙ c.loop-n.invariant

@@ -3,5 +3,5 @@ use Rattle.zl_asm.proofs.disassembling.push_code.Given as goal
 
 abbrev pub invariant-loop-n : goal.invariant-loop-n
 invariant-loop-n l =
-    string_bytes l.text ++ ended (code_lines_from (map instr_bytes l.code) l.n (drop l.n (map instr_bytes l.code)))
-    ≡ string_bytes l.fn.text ++ ended (code_lines (map instr_bytes l.code))
+    string_bytes l.text ++ ended (code_lines_from l.version (map instr_bytes l.code) l.n (drop l.n (map instr_bytes l.code)))
+    ≡ string_bytes l.fn.text ++ ended (code_lines l.version (map instr_bytes l.code))

@@ -10,5 +10,6 @@ loop-instr-preserved c =
     let within : i < length code = omega (arith, length-map c.args.code.now instr_bytes, c.loop-instr-test.true) in
     let here : get_or code i bytes ≡ bytes =
     get_or-map instr_bytes c.args.code.now i c.instr-item.result bytes c.loop-instr-test.true ∙ ap instr_bytes (sym c.instr-item.is) in
-    targets_more c.loop-instr.targets.items c.mark.new.targets.items code (length c.args.code.now) i bytes within c.loop-instr.invariant c.mark.ensures.len
-    (λ n below. c.mark.ensures.marked n below ∙ ap (λ (b : List ℕ). get_or c.loop-instr.targets.items n false || aims_at n b) (sym here))
+    targets_more c.args.version c.loop-instr.targets.items c.mark.new.targets.items code
+    (length c.args.code.now) i bytes within c.loop-instr.invariant c.mark.ensures.len
+    (λ n below. c.mark.ensures.marked n below ∙ ap (λ (b : List ℕ). get_or c.loop-instr.targets.items n false || aims_at c.args.version n b) (sym here))

@@ -5,7 +5,8 @@ use Rattle.zl_asm.proofs.Answered.{value_if_ok, none_if_err}
 use Rattle.zl_asm.proofs.LineOperands.{Text}
 use Rattle.zl_asm.proofs.line.instruction_of.Goals as goal
 
-whole : (c : goal.After-source_of) → instruction_of c.args.name.now (texts c.args.words.now) ≡ option_map source_value (result_ok c.source_of.result)
+whole : (c : goal.After-source_of) → instruction_of c.args.version c.args.name.now (texts c.args.words.now)
+    ≡ option_map source_value (result_ok c.source_of.result)
 whole c =
     let row = row_value c.in-Some.row in
     ap (λ (o : Option Row). then_with o (λ r. then_with (operands_of (texts c.args.words.now)) (source_of r))) (sym c.in-Some.ensures.row)

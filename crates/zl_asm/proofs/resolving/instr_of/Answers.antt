@@ -16,10 +16,10 @@ returns-in-Some-clause-found c = IfOk-weaker c.decoded.result _ _ (λ i same. wh
 
 pub returns-in-Some-clause-refused : goal.returns-in-Some-clause-refused
 returns-in-Some-clause-refused c =
-    IfErr-weaker c.decoded.result _ _ (λ _ fault. ap (is_fine c.args.raw) (whole c) ∙ not_from_true _ fault) c.decoded.ensures.refused
+    IfErr-weaker c.decoded.result _ _ (λ _ fault. ap (is_fine c.args.version c.args.raw) (whole c) ∙ not_from_true _ fault) c.decoded.ensures.refused
 
 pub returns-in-None-clause-refused : goal.returns-in-None-clause-refused
 returns-in-None-clause-refused c =
-    ap (λ (k : Kept). is_fine c.args.raw (resolved (labels_shown c.args.labels.now.entries) (kept_value k))) c.in-Open.is
-    ∙ ap (is_fine c.args.raw)
+    ap (λ (k : Kept). is_fine c.args.version c.args.raw (resolved (labels_shown c.args.labels.now.entries) (kept_value k))) c.in-Open.is
+    ∙ ap (is_fine c.args.version c.args.raw)
     (resolved_by c.args.labels.now.entries c.in-Open.bytes c.in-Open.label _ (sym c.get.ensures.value ∙ ap option_copied c.in-None.is))

@@ -1,36 +1,32 @@
-use Rattle.zl_asm.proofs.Common.{List, SourceLine, ap, arith, held_by, inl, inr, kept_value, length, length-map, sources_shown, sym}
-use Rattle.zl_asm.proofs.DraftGives.{resolves_none, resolves_at, unfit_at, gives_image}
+use Rattle.zl_asm.proofs.Common.{arith, held_by, inl, inr}
+use Rattle.zl_asm.proofs.DraftGives.{gives_image, gives_none}
+use Rattle.zl_asm.proofs.PairedCode.{joined_in_range, joined_length}
 use Rattle.zl_asm.proofs.draft.Draft.into_image.Goals as goal
 
-pub loop-entry-init : goal.loop-entry-init
-loop-entry-init c = resolves_none (held_by c.args.self) c.args.self.empty
+pub set_code-requires-clause-in_range : goal.set_code-requires-clause-in_range
+set_code-requires-clause-in_range c =
+    let r = c.in_ok-code.ensures {u = tt} in
+    rw ((c.in-Ok.ensures {u = tt}).joined, c.deref.ensures.value) (joined_in_range _ _ c.in_ok-code.code.items r.few r.whole.in_range)
+
+pub set_code-requires-clause-most : goal.set_code-requires-clause-most
+set_code-requires-clause-most c =
+    let r = c.in_ok-code.ensures {u = tt} in
+    rw ((c.in-Ok.ensures {u = tt}).joined, c.deref.ensures.value) (omega (arith, joined_length c.in_ok-code.code.items, r.few))
+
+pub returns-in-Ok-clause-given : goal.returns-in-Ok-clause-given
+returns-in-Ok-clause-given c =
+    let r = c.in_ok-code.ensures {u = tt} in
+    let nested = c.in-Ok.ensures {u = tt} in
+    gives_image (held_by c.args.self) c.in_ok-code.code.items c.set_code.new.self r.whole r.few
+    (rw (nested.joined, c.deref.ensures.value) at nested.keeps) (rw (nested.joined, c.deref.ensures.value) at c.set_code.ensures) c.len.ensures.in_range
+
+pub returns-in-Ok-clause-in_range : goal.returns-in-Ok-clause-in_range
+returns-in-Ok-clause-in_range c = c.len.ensures.in_range
 
 pub returns-in-Err-clause-refused : goal.returns-in-Err-clause-refused
 returns-in-Err-clause-refused c =
-    let at = (c.in-Some.ensures {u = tt}).lookup in
-    let shown = ap (λ (l : List SourceLine). sources_shown l) (sym c.deref.ensures.value) in
-    elim ((c.in-Err.ensures {u = tt}).refused) [
+    let r = c.in_ok-code.ensures {u = tt} in
+    elim (c.in-Err.ensures {u = tt}).refused [
       | inl starved ↦ inl starved
-      | inr unfit ↦ inr (unfit_at (held_by c.args.self) c.deref.result.now c.len.result c.in-Some.entry.now c.loop-entry.image shown at.3.0 at.1
-          c.loop-entry.invariant unfit)
+      | inr broken ↦ inr (gives_none (held_by c.args.self) c.in_ok-code.code.items r.whole r.few (rw c.deref.ensures.value at broken))
     ]
-
-pub loop-entry-preserved : goal.loop-entry-preserved
-loop-entry-preserved c =
-    let at = (c.in-Some.ensures {u = tt}).lookup in
-    let shown = ap (λ (l : List SourceLine). sources_shown l) (sym c.deref.ensures.value) in
-    resolves_at (held_by c.args.self) c.deref.result.now c.len.result c.in-Some.entry.now c.loop-entry.image c.push_kept.new.image shown at.3.0 at.1
-    c.len.ensures.value c.loop-entry.invariant (c.in_default-push_kept.ensures {u = tt}).pushed
-
-pub returns-clause-given : goal.returns-clause-given
-returns-clause-given c =
-    let past = (c.in_default.ensures {u = tt}).lookup in
-    gives_image (held_by c.args.self) c.loop-entry.image c.loop-entry.invariant
-    (omega (
-      arith,
-      past.3,
-      c.len.ensures.value,
-      ap length c.deref.ensures.value,
-      length-map c.args.self.sources.items (λ (s : SourceLine). kept_value s.kept),
-    ))
-    c.len.ensures.in_range

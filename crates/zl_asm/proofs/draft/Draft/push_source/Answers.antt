@@ -11,7 +11,8 @@ returns-then-len-ge-MOST_INSTRUCTIONS-clause-refused c =
 pub returns-in-Err-clause-refused : goal.returns-in-Err-clause-refused
 returns-in-Err-clause-refused c =
     let fault = (c.in-Err.ensures {u = tt}).refused in
-    inr (fault_refused (held_by c.args.self.now) (source_value c.args.source) (ap (option_map (λ name. name.now)) fault.0) (rw c.is_raw.ensures at fault.1))
+    inr (fault_refused (held_by c.args.self.now) (source_value c.args.source) (ap (option_map (λ name. name.now)) fault.0) (rw
+    (c.version.ensures, c.is_raw.ensures) at fault.1))
 
 pub returns-in_ok-extend_from_slice-in-Ok-clause-held : goal.returns-in_ok-extend_from_slice-in-Ok-clause-held
 returns-in_ok-extend_from_slice-in-Ok-clause-held c =

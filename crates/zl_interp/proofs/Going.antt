@@ -55,4 +55,4 @@ module _ (i : Image) (code : List Instr) (c : Cpu) (same : code ≡ i.code) (ran
 -- what leads there, and is alike in each image that agrees, is a burst of it
 pub is_burst : (i : Image) (d : Done) → Leads i.code d.places d.ran d.from d.to → ((j : Image) → Agrees j.code d.places → next_at j d.to ≡ next_at i d.to)
     → d.stop ≡ stop_at (next_at i d.to) → IsBurst d
-is_burst i d leads alike stop = record { follows = leads.follows; stops = λ j a. stop ∙ ap stop_at (sym (alike j a)) }
+is_burst i d leads alike stop = record { follows = λ j m. leads.follows j m.agrees; stops = λ j m. stop ∙ ap stop_at (sym (alike j m.agrees)) }

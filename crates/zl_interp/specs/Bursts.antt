@@ -4,6 +4,7 @@ use Rattle.std.specs.Option.{option_map}
 use Rattle.zl_code.specs.Common.{Cpu, Image, Program, Next, AtCall, Moves, IsStuck}
 use Rattle.zl_code.specs.Spells.{instr_bytes, is_instr_in_range}
 use Rattle.zl_code.specs.Steps.{next_at}
+use Rattle.zl_code.specs.declared.image.Version.{Version}
 use Rattle.zl_code.specs.declared.instr.Instr.{Instr}
 use Rattle.zl_interp.specs.declared.bursts.Stop.{Stop}
 use Rattle.zl_interp.specs.declared.bursts.Stop.TheVariants as stop
@@ -36,14 +37,15 @@ pub record Turn : Type 0 where
   pub program : Program
   pub cpu : Cpu
 
--- what it did: so many local instructions from one Cpu to another, and where it ended; a place for each instruction of its
--- program, filled where that was done or stands next
+-- what it did: so many local instructions from one Cpu to another, and where it ended; the version of its program, and a
+-- place for each instruction of that, filled where it was done or stands next
 pub record Done : Type 0 where
   pub pid : ℕ
   pub from : Cpu
   pub to : Cpu
   pub ran : ℕ
   pub stop : Stop
+  pub version : Version
   pub places : List (Option Instr)
 
 -- the code has as many instructions as there are places, and in each that is filled this one
@@ -51,10 +53,15 @@ pub record Agrees (code : List Instr) (places : List (Option Instr)) : Type 0 wh
   pub long : length code ≡ length places
   pub filled : (n : ℕ) (x : Instr) → slice_get places n ≡ Some (Some x) → slice_get code n ≡ Some x
 
--- in each image that agrees they lead from the one Cpu to the other, and it ended where it says
+-- the image has the version of what was done, and its code agrees
+pub record Matches (i : Image) (d : Done) : Type 0 where
+  pub version : i.version ≡ d.version
+  pub agrees : Agrees i.code d.places
+
+-- in each image that matches they lead from the one Cpu to the other, and it ended where it says
 pub record IsBurst (d : Done) : Type 0 where
-  pub follows : (i : Image) → Agrees i.code d.places → after_locals i d.ran d.from ≡ Some d.to
-  pub stops : (i : Image) → Agrees i.code d.places → d.stop ≡ stop_at (next_at i d.to)
+  pub follows : (i : Image) → Matches i d → after_locals i d.ran d.from ≡ Some d.to
+  pub stops : (i : Image) → Matches i d → d.stop ≡ stop_at (next_at i d.to)
 
 -- ---- how the code gets there; no public clause cites what follows
 
@@ -63,9 +70,9 @@ pub record Leads (code : List Instr) (places : List (Option Instr)) (n : ℕ) (f
   pub agrees : Agrees code places
   pub follows : (i : Image) → Agrees i.code places → after_locals i n from ≡ Some to
 
--- what fills a place can stand in an image
-pub record CanStand (places : List (Option Instr)) : Type 0 where
-  pub stands : (n : ℕ) (x : Instr) → slice_get places n ≡ Some (Some x) → IsTrue (is_instr_in_range true x)
+-- what fills a place can stand in an image of the version
+pub record CanStand (v : Version) (places : List (Option Instr)) : Type 0 where
+  pub stands : (n : ℕ) (x : Instr) → slice_get places n ≡ Some (Some x) → IsTrue (is_instr_in_range v true x)
 
 -- as many as there are places, and in each that is filled one with these bytes
 pub record HasBytes (code : List Instr) (places : List (Option Instr)) : Type 0 where

@@ -1,4 +1,5 @@
 pub mod Cpu
+pub mod Counters
 pub mod Running
 pub mod Program
 pub mod Next

@@ -6,7 +6,7 @@ ghost use Rattle.zl_code.specs.Image.{Image as ImageValue};
 ghost use Rattle.zl_code.specs.Spells.{instr_bytes};
 ghost use Rattle.zl_code.specs.Steps.{next_at};
 ghost use Rattle.zl_code.specs.declared.instr.Instr.{Instr as InstrValue};
-ghost use Rattle.zl_interp.specs.Bursts.{Agrees, HasBytes, IsBurst, Leads, stop_at};
+ghost use Rattle.zl_interp.specs.Bursts.{Agrees, HasBytes, IsBurst, Leads, Matches, stop_at};
 ghost use Rattle.zl_interp.specs.Program.{program_value};
 ghost use Rattle.zl_interp.specs.declared.bursts.Stop.TheVariants.{More};
 ghost use Rattle.zl_verify.specs.Covered.{IsAble, IsAbleIn};
@@ -17,7 +17,7 @@ use crate::program::Program;
 use std::alloc::{AllocError, Global};
 use std::marker::Model;
 use std::sync::Arc;
-use zl_code::{Image, Instr};
+use zl_code::{Image, Instr, Version};
 use zl_rights::Pid;
 
 /// Where a burst ended.
@@ -122,9 +122,9 @@ fn empty_places(alloc: Global, image: &Image) -> Result<Vec<Option<Instr>>, Allo
 /// What a process did by itself: how many local instructions in a row, from which Cpu to which, and
 /// where they ended.
 ///
-/// In place of its program it has the instructions that were done, and the one that stands next. Only
-/// `burst` makes one, so all this is so in each program of the same length with the same
-/// instructions in these places.
+/// In place of its program it has the version of that, the instructions that were done, and the one
+/// that stands next. Only `burst` makes one, so all this is so in each program of the same version and
+/// length with the same instructions in these places.
 ///
 /// Source: own profile.
 #[derive(Drop)]
@@ -134,6 +134,7 @@ pub struct Done {
     to: Cpu,
     ran: u32,
     stop: Stop,
+    version: Version,
     places: Vec<Option<Instr>>,
 }
 
@@ -148,6 +149,7 @@ impl Model for Done {
       to = d.to;
       ran = d.ran;
       stop = d.stop;
+      version = d.version;
       places = d.places.items;
     } };
 
@@ -157,8 +159,9 @@ impl Model for Done {
       to = d.to;
       ran = d.ran;
       stop = d.stop;
+      version = d.version;
       places = d.places.items;
-    }) × CanStand d.places.items };
+    }) × CanStand d.version d.places.items };
 }
 
 impl Done {
@@ -198,12 +201,12 @@ impl Done {
         &self.places
     }
 
-    /// Whether the image has as many instructions as there are places, and in each that is filled the
-    /// same one. It takes no memory.
+    /// Whether the image has the version of its program and as many instructions as there are places,
+    /// and in each that is filled the same one. It takes no memory.
     pub fn agrees(&self, image: &Image) -> bool
-        ensures { IsTrue result ↔ Agrees image.now.code self.now.places }
+        ensures { IsTrue result ↔ Matches image.now self.now }
     {
-        has_bytes(image.code(), &self.places)
+        are_same_versions(image.version(), self.version) && has_bytes(image.code(), &self.places)
     }
 
     /// The Cpu with which it ended.
@@ -212,6 +215,12 @@ impl Done {
     {
         self.to
     }
+}
+
+fn are_same_versions(one: Version, other: Version) -> bool
+    ensures { IsTrue result ↔ one ≡ other }
+{
+    one == other
 }
 
 /// Whether there are as many instructions as places, and in each that is filled one with these bytes.
@@ -258,6 +267,7 @@ fn are_spelled_alike(one: &Instr, other: &Instr) -> bool
 pub fn burst(turn: Turn, most: u32) -> Done
     ensures process { result.pid ≡ turn.pid }
     ensures from { result.from ≡ turn.cpu }
+    ensures version { result.version ≡ turn.program.image.version }
     ensures agrees { Agrees turn.program.image.code result.places }
     ensures follows { IsBurst result }
     ensures within { result.ran ≤ most }
@@ -274,12 +284,14 @@ pub fn burst(turn: Turn, most: u32) -> Done
     let stop = stop_of(&program, &to);
     // Its clause has that instructions of an image are in their ranges.
     program.image().len();
+    let version = program.image().version();
     Done {
         pid,
         from,
         to,
         ran,
         stop,
+        version,
         places,
     }
 }

@@ -9,13 +9,14 @@ ghost use Rattle.zl_code.specs.Starting.{cpu_given};
 ghost use Rattle.zl_interp.specs.Cpu.{started_cpu, register_set, handle_register};
 ghost use Rattle.zl_interp.specs.Running.{empty_places};
 
+use crate::counters::Counters;
 use std::alloc::{AllocError, Global};
 use std::marker::Model;
 use zl_code::{HandleList, Image, Register, SlotArray};
 use zl_rights::HValue;
 
-/// What a process computes with: program counter, registers, data memory and slot arrays. To it a
-/// handle is a number.
+/// What a process computes with: program counter, registers, data memory, slot arrays and the counters
+/// of the blocks that it is in. To it a handle is a number.
 ///
 /// Source: own profile.
 #[derive(Drop)]
@@ -24,6 +25,7 @@ pub struct Cpu {
     pub(crate) registers: [u64; 32],
     pub(crate) memory: Vec<u8>,
     pub(crate) slots: Vec<Vec<u64>>,
+    pub(crate) counters: Counters,
 }
 
 impl Model for Cpu {
@@ -37,6 +39,7 @@ impl Model for Cpu {
       registers = c.registers;
       memory = c.memory.items;
       slots = map (λ places. places.items) c.slots.items;
+      counters = c.counters;
     } };
 }
 
@@ -55,6 +58,7 @@ impl Cpu {
             registers,
             memory,
             slots,
+            counters: Counters::none(),
         })
     }
 
@@ -67,6 +71,7 @@ impl Cpu {
             registers: self.registers,
             memory: self.memory.to_vec(alloc)?,
             slots: copied_slots(alloc, &self.slots)?,
+            counters: self.counters.copy(),
         })
     }
 
@@ -78,6 +83,7 @@ impl Cpu {
             && self.registers == other.registers
             && self.memory.as_slice() == other.memory.as_slice()
             && are_same_slots(&self.slots, &other.slots)
+            && self.counters.is_same(&other.counters)
     }
 
     /// The number of the next instruction.

@@ -8,6 +8,7 @@
 #![tactic(auto)]
 
 mod bursts;
+mod counters;
 mod cpu;
 mod memory;
 mod next;

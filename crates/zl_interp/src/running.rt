@@ -5,7 +5,7 @@
 
 ghost use Rattle.std.specs.Prelude.{◌≡◌, ◌+◌, ◌-◌, ◌*◌, ◌/◌, ◌<◌, ◌^◌, Some, None, nat_lt, if◌then◌else◌, is_some, false, IsSome, IfSome, IfNone};
 ghost use Rattle.zl_rights.specs.Numbers.{within};
-ghost use Rattle.zl_code.specs.Local.{goes_to, local_effect, wrapped, loads, sets, stores, swaps};
+ghost use Rattle.zl_code.specs.Local.{enters, goes_to, local_effect, wrapped, loads, sets, stores, swaps, turns};
 ghost use Rattle.zl_interp.specs.Running.{slot_in, slot_set, moved};
 
 use crate::cpu::Cpu;
@@ -149,6 +149,42 @@ impl Cpu {
         Some(counter + 1)
     }
 
+    /// A block begins that is gone round so many times, if fewer than four are open.
+    #[inline(always)]
+    fn enter<const TESTED: bool>(&mut self, counter: usize, count: u32) -> Option<usize>
+        requires counter { counter < 2 ^ 32 }
+        requires sure { TESTED ≡ false → IsSome (enters (goes_to self.old counter) count) }
+        ensures some { IfSome result (λ next.
+            enters (goes_to self.old counter) count ≡ Some (goes_to self.new next)) }
+        ensures none { IfNone result
+            ((enters (goes_to self.old counter) count ≡ None) × (self.new ≡ self.old)) }
+    {
+        if TESTED && self.counters.is_full() {
+            return None;
+        }
+        self.counters.enter(count);
+        Some(counter + 1)
+    }
+
+    /// A block goes on behind its rep, or is left, if one is open.
+    #[inline(always)]
+    fn turn<const TESTED: bool>(&mut self, counter: usize, rep: u32) -> Option<usize>
+        requires counter { counter < 2 ^ 32 }
+        requires sure { TESTED ≡ false → IsSome (turns (goes_to self.old counter) rep) }
+        ensures some { IfSome result (λ next.
+            turns (goes_to self.old counter) rep ≡ Some (goes_to self.new next)) }
+        ensures none { IfNone result
+            ((turns (goes_to self.old counter) rep ≡ None) × (self.new ≡ self.old)) }
+    {
+        if TESTED && self.counters.is_empty() {
+            return None;
+        }
+        if self.counters.turn() {
+            return Some(rep as usize + 1);
+        }
+        Some(counter + 1)
+    }
+
     /// The register becomes the value; the next instruction is the one behind this.
     fn assign(&mut self, counter: usize, register: Register, value: u64) -> usize
         requires { counter < 2 ^ 32 }
@@ -212,7 +248,8 @@ fn has(value: u64, bits: u32) -> bool
     value & bits == bits
 }
 
-/// Whether the local instruction can be done: what it names of memory and slot arrays is there.
+/// Whether the local instruction can be done: what it names of memory and slot arrays is there, and
+/// there is room for one more counter, or one to count.
 #[tactic(auto, unfolding(zl_code::specs::Local::local_effect))]
 pub fn can_run(cpu: &Cpu, local: &LocalInstr) -> bool
     ensures { result ≡ is_some (local_effect local.now cpu.now) }
@@ -228,6 +265,8 @@ pub fn can_run(cpu: &Cpu, local: &LocalInstr) -> bool
         LocalInstr::LoadWord { base, offset, .. } | LocalInstr::StoreWord { base, offset, .. } => {
             cpu.place::<true>(cpu.register(*base), *offset, 8).is_some()
         }
+        LocalInstr::Rep { .. } => !cpu.counters.is_full(),
+        LocalInstr::EndRep { .. } => !cpu.counters.is_empty(),
         _ => true,
     }
 }
@@ -284,6 +323,8 @@ pub fn run<const TESTED: bool>(cpu: &mut Cpu, counter: usize, local: &LocalInstr
             offset,
             cpu.register(source),
         ),
+        LocalInstr::Rep { count, .. } => return cpu.enter::<TESTED>(counter, count),
+        LocalInstr::EndRep { rep } => return cpu.turn::<TESTED>(counter, rep),
         LocalInstr::Const {
             destination,
             number,

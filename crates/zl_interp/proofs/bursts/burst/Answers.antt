@@ -10,7 +10,9 @@ invariant_of-result c =
     let long : length c.run-ran.new.places ≡ c.turn.inside.places.len = omega (arith, leads.agrees.long, c.turn.invariant.2.long, c.turn.inside.places.ok.0) in
     rw (with_items_is c.turn.inside.places c.run-ran.new.places long) (
       is_burst i _ leads (rw c.deref.ensures at c.run-ran.ensures.next) (rw c.deref-2.ensures at c.stop_of-stop.ensures),
-      can_stand i c.run-ran.new.places (rw (c.image.ensures, c.deref-3.ensures) at c.len.ensures.in_range) leads.agrees,
+      rw (c.version-version.ensures, c.image-2.ensures, c.deref-4.ensures) (
+          can_stand i c.run-ran.new.places (rw (c.image.ensures, c.deref-3.ensures) at c.len.ensures.in_range) leads.agrees
+          ),
     )
 
 pub returns-clause-follows : goal.returns-clause-follows

@@ -13,4 +13,5 @@ returns c =
           slot_written (λ places. places.items) c.self.inside.slots.items c.args.array c.args.place c.args.value c.index_mut.result.now
           (with_item c.index_mut.result.now c.args.place c.args.value) (rw (← c.self.view_is) at c.requires)
           (ap (λ (places : List ℕ). slice_set places c.args.place c.args.value) (ap (λ places. places.items) c.index_mut.ensures.value)) i;
+      counters = c.self.inside.counters;
     })

@@ -5,7 +5,7 @@ use Rattle.zl_code.specs.Common.{get, Cpu, Program, on_process}
 use Rattle.zl_code.specs.Starting.{program_of}
 use Rattle.zl_code.specs.declared.history.TraceItem.{TraceItem}
 use Rattle.zl_code.specs.declared.history.TraceItem.TheVariants as item
-use Rattle.zl_interp.specs.Bursts.{Turn, Done, Agrees}
+use Rattle.zl_interp.specs.Bursts.{Turn, Done, Matches}
 use Rattle.zl_calls.specs.World.{Machine}
 
 -- this program and this Cpu stand here for the process
@@ -18,11 +18,11 @@ pub record IsTurn (m : Machine) (pid : ℕ) (t : Turn) : Type 0 where
   pub pid_is : t.pid ≡ pid
   pub stands : Stands m pid t.program t.cpu
 
--- what was done began with the Cpu that stands here for its process, by instructions of the program that stands here
+-- what was done began with the Cpu that stands here for its process, by instructions of the program that stands here, which has its version
 pub record Fits (m : Machine) (d : Done) : Type 0 where
   pub program : Program
   pub stands : Stands m d.pid program d.from
-  pub agrees : Agrees program.image.code d.places
+  pub matches : Matches program.image d
 
 -- the world in which its process has the Cpu with which it ended
 abbrev pub advanced : Machine → Done → Machine

@@ -307,8 +307,8 @@ impl World {
     }
 
     /// Whether its process stands here with the Cpu with which it began, the same field by field, and
-    /// with a program of as many instructions as it has places, which has those in the filled ones. It
-    /// takes no memory.
+    /// with a program of its version and of as many instructions as it has places, which has those in
+    /// the filled ones. It takes no memory.
     pub fn fits(&self, done: &Done) -> bool
         ensures { IsTrue result ↔ Fits self.now done.now }
     {

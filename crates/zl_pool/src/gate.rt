@@ -14,6 +14,7 @@ pub trait Gate: Sync {
     fn burst(&self, turn: Turn, most: u32) -> Done
         ensures process { result.pid ≡ turn.pid }
         ensures from { result.from ≡ turn.cpu }
+        ensures version { result.version ≡ turn.program.image.version }
         ensures agrees { Agrees turn.program.image.code result.places }
         ensures follows { IsBurst result }
         ensures within { result.ran ≤ most }

@@ -1,4 +1,5 @@
 -- Worked examples: what is counted of a burst, and the list with its marks after it was handed in.
+use Rattle.zl_code.specs.declared.image.Version.TheVariants as version
 use Rattle.zl_sched.proofs.Common.{Blocked, Created, Done, Ended, None, PacketAt, Process, Ready, State, System, World, [], false, get, is_in, is_process}
 use Rattle.zl_sched.proofs.Common.{is_ready_or_over, others_of, put_back, queued_after, refl, requeued, run_items, times_in, true, unmarked, ℕ, ◌∷◌, ◌≡◌}
 use Rattle.zl_rights.specs.Common.{STUCK, Cpu}
@@ -11,7 +12,7 @@ use Rattle.zl_sched.specs.HandIn.{items_of}
 
 module _ (c : Cpu) where
   abbrev did : ℕ → Stop → Done
-  did ran stop = record { pid = 2; from = c; to = c; ran = ran; stop = stop; places = [] }
+  did ran stop = record { pid = 2; from = c; to = c; ran = ran; stop = stop; version = version.One; places = [] }
 
   a_call_alone : items_of (did 0 stop.AtCall) ≡ 1
   a_call_alone = refl

@@ -24,8 +24,8 @@ use zl_rights::Pid;
 pub enum HandIn {
     /// Its items are in the trace.
     Taken,
-    /// The process isn't out, or it lives with another Cpu, or with a program of another length or with
-    /// other instructions in the filled places.
+    /// The process isn't out, or it lives with another Cpu, or with a program of another version or
+    /// length or with other instructions in the filled places.
     Stranger,
     /// The process was out, and lives no more.
     Gone,
@@ -75,8 +75,8 @@ impl System {
     /// where it is at a call, or stuck, it does that too. It isn't out any more.
     ///
     /// `Stranger` comes where the process isn't out, or lives with another Cpu than that with which it
-    /// began, or with a program that has more or fewer instructions than places are carried, or another
-    /// one in a place that is filled; `Gone` where it lives no more; else `Limit` where the trace has no
+    /// began, or with a program of another version, of more or fewer instructions than places are carried,
+    /// or with another one in a place that is filled; `Gone` where it lives no more; else `Limit` where the trace has no
     /// room for the items, and `NoMemory` where memory is refused. That it was refused no clause says. After
     /// these nothing is different but that a living process which was out is last in the ready list.
     pub fn hand_in(&mut self, done: Done) -> HandIn

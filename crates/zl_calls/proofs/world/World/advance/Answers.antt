@@ -52,7 +52,7 @@ module _ (c : goal.After-self-1) where
 
   follows : after_locals g.image c.args.done.ran p.cpu ≡ Some p2.cpu
   follows = ap (after_locals g.image c.args.done.ran) cpu
-      ∙ (c.ran.ensures.follows.follows g.image c.requires.fits.agrees ∙ ap (λ (d : Cpu). Some d) (sym c.into_cpu.ensures))
+      ∙ (c.ran.ensures.follows.follows g.image c.requires.fits.matches ∙ ap (λ (d : Cpu). Some d) (sym c.into_cpu.ensures))
 
 pub invariant_of-self-inside : goal.invariant_of-self-inside
 invariant_of-self-inside c = record {

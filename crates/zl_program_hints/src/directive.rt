@@ -10,10 +10,10 @@ use crate::word::plural;
 use std::alloc::{AllocError, Global};
 use zl_asm::numbers::{number, sixteen_bytes};
 use zl_asm::words::{is, split_words};
-use zl_code::{Image, Row};
+use zl_code::{Image, Row, Version};
 use zl_rights::{Condition, Kind};
 
-/// The directives, each with what it takes.
+/// The directives but that of the version, each with what it takes.
 const DIRECTIVES: [(&str, usize, &str); 7] = [
     (".raw", 0, ""),
     (".memory", 1, ", a number of bytes"),
@@ -24,8 +24,8 @@ const DIRECTIVES: [(&str, usize, &str); 7] = [
     (".bytes", 1, ", 32 hexadecimal digits"),
 ];
 
-const NAMES: [&str; 7] = [
-    ".raw", ".memory", ".budget", ".need", ".start", ".slots", ".bytes",
+const NAMES: [&str; 8] = [
+    ".version", ".raw", ".memory", ".budget", ".need", ".start", ".slots", ".bytes",
 ];
 
 const KINDS: [&str; 7] = [
@@ -74,10 +74,51 @@ pub fn push_directive_operand(
     let [name, operands @ ..] = words else {
         return Ok(());
     };
-    if push_wrong_count(hint, name, operands)? || push_wrong_operand(hint, name, operands)? {
+    if is(name, b".version") {
+        return push_wrong_version(hint, alloc, above, operands);
+    }
+    let version = version_above(alloc, above)?;
+    if push_wrong_count(hint, name, operands)?
+        || push_wrong_operand(hint, version, name, operands)?
+    {
         return Ok(());
     }
     push_wrong_place(hint, alloc, above, name)
+}
+
+/// The version that these lines declare.
+fn version_above(alloc: Global, above: &[Line]) -> Result<Version, AllocError> {
+    let mut words = Vec::new(alloc);
+    for line in above {
+        split_words(&mut words, line.bytes)?;
+        if matches!(words.as_slice(), [name, ..] if is(name, b".version")) {
+            return Ok(Version::Two);
+        }
+    }
+    Ok(Version::One)
+}
+
+/// Adds that the version takes nothing but 2, or why it can't stand below these lines.
+fn push_wrong_version(
+    hint: &mut String,
+    alloc: Global,
+    above: &[Line],
+    operands: &[&[u8]],
+) -> Result<(), AllocError> {
+    if !matches!(operands, [word] if number(word) == Some(2)) {
+        return hint.push_str(".version takes 2 alone; without it the version is 1");
+    }
+    let mut words = Vec::new(alloc);
+    for line in above {
+        split_words(&mut words, line.bytes)?;
+        let text = match words.as_slice() {
+            [] => continue,
+            [first, ..] if is(first, b".version") => ".version stands in line # already",
+            _ => ".version stands above all else; put it above line #",
+        };
+        return push_text(hint, text, &[Number(line.number)]);
+    }
+    Ok(())
 }
 
 /// How many operands the directive takes, and which.
@@ -116,11 +157,12 @@ fn push_wrong_count(
 /// Adds which operand is wrong, if one is.
 fn push_wrong_operand(
     hint: &mut String,
+    version: Version,
     name: &[u8],
     operands: &[&[u8]],
 ) -> Result<bool, AllocError> {
     match operands {
-        [digits] if is(name, b".bytes") => push_wrong_bytes(hint, digits),
+        [digits] if is(name, b".bytes") => push_wrong_bytes(hint, version, digits),
         [word] if is(name, b".need") => push_wrong_need(hint, word),
         [word] => push_wrong_number(hint, name, 1, word),
         [kind, rights] => {
@@ -136,17 +178,21 @@ fn push_wrong_operand(
 }
 
 /// Adds why the digits aren't those of an instruction that can stand there.
-fn push_wrong_bytes(hint: &mut String, digits: &[u8]) -> Result<bool, AllocError> {
+fn push_wrong_bytes(
+    hint: &mut String,
+    version: Version,
+    digits: &[u8],
+) -> Result<bool, AllocError> {
     match sixteen_bytes(digits) {
-        Some(bytes) => push_opcode(hint, bytes[0])?,
+        Some(bytes) => push_opcode(hint, version, bytes[0])?,
         None => push_text(hint, "# isn't 32 hexadecimal digits", &[Word(digits)])?,
     }
     Ok(true)
 }
 
 /// Adds why the bytes of an instruction with this opcode can't stand there.
-fn push_opcode(hint: &mut String, opcode: u8) -> Result<(), AllocError> {
-    match Row::of_opcode(opcode) {
+fn push_opcode(hint: &mut String, version: Version, opcode: u8) -> Result<(), AllocError> {
+    match Row::at(version, opcode) {
         Some(row) => push_text(
             hint,
             "the opcode # is #, which is written by its name",

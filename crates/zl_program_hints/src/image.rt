@@ -1,5 +1,6 @@
 //! The faults of the bytes of an image.
 
+use crate::breach::{breach_at, push_breach_at};
 use crate::guess::push_guess;
 use crate::lines::{Line, push_head};
 use crate::text::Value::{Name, Number};
@@ -7,7 +8,7 @@ use crate::text::{Value, push_text};
 use crate::word::plural;
 use bitflags::Flags;
 use std::alloc::AllocError;
-use zl_code::{DecodeFault, Ending, HandleList, Instr, Row};
+use zl_code::{DecodeFault, Ending, HandleList, Instr, Row, Version};
 use zl_rights::{Kind, Rights};
 
 /// How many bytes a header has.
@@ -130,7 +131,7 @@ pub fn push_image_fault(
             push_guess(hint, source.opened, bytes)
         }
         DecodeFault::Version => {
-            let text = "byte 4 of the image is #; the one version is 1";
+            let text = "byte 4 of the image is #; the versions are 1 and 2";
             let version = Number(u64::from(byte_at(bytes, 4)));
             push_fault(hint, source, 4, "Version", text, &[version])
         }
@@ -139,6 +140,7 @@ pub fn push_image_fault(
         DecodeFault::UnknownOp | DecodeFault::BadRegister | DecodeFault::UnusedField => {
             push_code_fault(hint, source, bytes, fault)
         }
+        DecodeFault::BadBlock => push_block_fault(hint, source, bytes),
         DecodeFault::NoMemory => Err(AllocError),
     }
 }
@@ -258,6 +260,33 @@ fn fault_of_declaration(bytes: &[u8], offset: usize, is_slot: bool) -> Option<&'
     }
 }
 
+/// The version of an image that has one.
+fn version_of(bytes: &[u8]) -> Version {
+    if byte_at(bytes, 4) == Version::Two.number() {
+        Version::Two
+    } else {
+        Version::One
+    }
+}
+
+/// Adds which rep, endrep or jump breaks the rule of blocks, and how.
+fn push_block_fault(hint: &mut String, source: Source, bytes: &[u8]) -> Result<(), AllocError> {
+    let begin = code_offset(bytes);
+    let (code, _) = bytes
+        .get(begin..)
+        .unwrap_or(&[])
+        .as_chunks::<{ Instr::LEN }>();
+    for number in 0..code.len() {
+        if let Some(text) = breach_at(code, number) {
+            let offset = begin.saturating_add(number.saturating_mul(Instr::LEN));
+            push_head(hint, source.line_of(offset), "BadBlock")?;
+            return push_breach_at(hint, code, number, text);
+        }
+    }
+    push_head(hint, source.opened, "BadBlock")?;
+    hint.push_str("rep and endrep don't nest, or a jump leads into a block or out of one")
+}
+
 /// Adds which instruction is at fault, and where.
 fn push_code_fault(
     hint: &mut String,
@@ -266,37 +295,57 @@ fn push_code_fault(
     fault: DecodeFault,
 ) -> Result<(), AllocError> {
     let is_raw = byte_at(bytes, 5) == 1;
+    let version = version_of(bytes);
     let mut offset = code_offset(bytes);
     let (code, _) = bytes
         .get(offset..)
         .unwrap_or(&[])
         .as_chunks::<{ Instr::LEN }>();
     for (number, instr) in code.iter().enumerate() {
-        if Instr::from_bytes(is_raw, *instr).is_err() {
-            return push_instr_fault(hint, source, number, offset, *instr, fault);
+        if Instr::from_bytes(version, is_raw, *instr).is_err() {
+            return match Row::at(version, instr[0]) {
+                Some(row) => push_field_fault(hint, source, number, offset, *instr, &row, fault),
+                None => push_unknown_opcode(hint, source, number, offset, instr[0]),
+            };
         }
         offset = offset.saturating_add(Instr::LEN);
     }
     Ok(())
 }
 
-/// Adds what is wrong with the instruction of this number, at this offset.
-fn push_instr_fault(
+/// Adds that the instruction of this number, at this offset, has an opcode that isn't known.
+fn push_unknown_opcode(
+    hint: &mut String,
+    source: Source,
+    number: usize,
+    offset: usize,
+    opcode: u8,
+) -> Result<(), AllocError> {
+    let text = match Row::of_opcode(opcode) {
+        Some(_) => "instruction # has the opcode #, which is # in version 2 alone",
+        None => "instruction # has the opcode #, which needs the raw mark",
+    };
+    let name = match Row::of_opcode(opcode) {
+        Some(row) => row.name,
+        None => "",
+    };
+    let values = [Number(number as u64), Number(u64::from(opcode)), Name(name)];
+    push_fault(hint, source, offset, "UnknownOp", text, &values)
+}
+
+/// Adds what is wrong with a field of the instruction of this number and row, at this offset.
+fn push_field_fault(
     hint: &mut String,
     source: Source,
     number: usize,
     offset: usize,
     bytes: [u8; Instr::LEN],
+    row: &Row,
     fault: DecodeFault,
 ) -> Result<(), AllocError> {
     let number = Number(number as u64);
-    let Some(row) = Row::of_opcode(bytes[0]) else {
-        let text = "instruction # has the opcode #, which needs the raw mark";
-        let opcode = Number(u64::from(bytes[0]));
-        return push_fault(hint, source, offset, "UnknownOp", text, &[number, opcode]);
-    };
     let is_of_registers = matches!(fault, DecodeFault::BadRegister);
-    let place = faulty_place(&row, &bytes, is_of_registers);
+    let place = faulty_place(row, &bytes, is_of_registers);
     let (cause, text) = if !is_of_registers {
         (
             "UnusedField",

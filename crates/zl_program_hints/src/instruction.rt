@@ -23,6 +23,10 @@ pub fn push_instruction_unknown(
     let [name, ..] = words else {
         return Ok(());
     };
+    if Row::named(name).is_some() {
+        let text = "# is an instruction of version 2: let .version 2 be the first directive";
+        return push_text(hint, text, &[Word(name)]);
+    }
     push_text(hint, "no instruction is called #", &[Word(name)])?;
     if push_slip(hint, words, is_block)? || push_name_here(hint, name)? {
         return Ok(());
@@ -37,6 +41,17 @@ pub fn push_instruction_unknown(
         }
     }
     nearest.push(hint)
+}
+
+/// What stands behind the registers in a text: those of a block are written without their targets.
+fn ending_of(row: &Row) -> Ending {
+    if row.name == "rep" {
+        Ending::Number
+    } else if row.name == "endrep" {
+        Ending::Nothing
+    } else {
+        row.columns.ending
+    }
 }
 
 /// How many operands stand behind the registers.
@@ -70,7 +85,7 @@ pub fn push_instruction_operand(
         return Ok(());
     };
     let count = words.len().div_ceil(2);
-    let ending = row.columns.ending;
+    let ending = ending_of(&row);
     let least = row.registers().saturating_add(ending_count(ending));
     let most = match ending {
         Ending::Handles => least.saturating_add(HandleList::MOST),
@@ -99,8 +114,10 @@ pub fn push_instruction_operand(
 
 /// Adds how many operands there are, and how many the instruction takes.
 fn push_count(hint: &mut String, row: &Row, count: usize, least: usize) -> Result<(), AllocError> {
-    let text = match row.registers() {
-        0 => "# has # operand# and takes ##: a target",
+    let text = match (row.registers(), ending_of(row)) {
+        (0, Ending::Nothing) => "# has # operand# and takes none",
+        (0, Ending::Number) => "# has # operand# and takes ##: a number",
+        (0, _) => "# has # operand# and takes ##: a target",
         _ => "# has # operand# and takes ##: # register##",
     };
     let most = match row.columns.ending {
@@ -127,7 +144,7 @@ const TARGET: &str = "a label or a number";
 fn wanted_for(row: &Row, index: usize, word: &[u8]) -> Option<&'static str> {
     let is_behind = index >= row.registers();
     let is_last = index > row.registers();
-    match row.columns.ending {
+    match ending_of(row) {
         Ending::Target if is_behind => no_target(word),
         Ending::Both if is_last => no_target(word),
         Ending::Number | Ending::Room | Ending::Both if is_behind => match number(word) {

@@ -13,6 +13,7 @@
 #![tactic(auto)]
 
 mod block;
+mod breach;
 mod directive;
 mod guess;
 mod image;

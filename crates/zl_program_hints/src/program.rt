@@ -1,5 +1,6 @@
 //! The faults of the assembler's text.
 
+use crate::breach::push_breach;
 use crate::directive::{push_directive_limit, push_directive_operand, push_directive_unknown};
 use crate::instruction::{push_instruction_operand, push_instruction_unknown};
 use crate::lines::{Line, numbered_lines, place_outside_ascii, push_head, push_odd_byte};
@@ -52,6 +53,7 @@ pub fn push_program_fault(
     match fault.cause {
         AsmCause::Token => push_token(hint, line.bytes, words.as_slice(), is_block),
         AsmCause::LabelMissing => push_label_missing(hint, alloc, lines, words.as_slice()),
+        AsmCause::Block => push_breach(hint, alloc, above, words.as_slice()),
         cause => push_words_fault(hint, alloc, above, words.as_slice(), is_block, cause),
     }
 }
@@ -79,7 +81,9 @@ fn push_words_fault(
             push_directive_limit(hint, name, rest)
         }
         AsmCause::Limit => hint.push_str("a program has at most 4096 instructions"),
-        AsmCause::Token | AsmCause::LabelMissing | AsmCause::NoMemory => Err(AllocError),
+        AsmCause::Token | AsmCause::LabelMissing | AsmCause::Block | AsmCause::NoMemory => {
+            Err(AllocError)
+        }
     }
 }
 

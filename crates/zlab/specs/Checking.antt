@@ -62,6 +62,7 @@ fault_name fault.UnknownOp = codes "UnknownOp"
 fault_name fault.UnusedField = codes "UnusedField"
 fault_name fault.BadRegister = codes "BadRegister"
 fault_name fault.BadHeader = codes "BadHeader"
+fault_name fault.BadBlock = codes "BadBlock"
 fault_name fault.NoMemory = codes "NoMemory"
 
 -- the line that says what was found

@@ -149,6 +149,7 @@ pub fn fault_name(fault: DecodeFault) -> &'static str
         DecodeFault::UnusedField => "UnusedField",
         DecodeFault::BadRegister => "BadRegister",
         DecodeFault::BadHeader => "BadHeader",
+        DecodeFault::BadBlock => "BadBlock",
         DecodeFault::NoMemory => "NoMemory",
     }
 }

@@ -5,7 +5,7 @@ use std::alloc::{AllocError, Global};
 use zl_code::{Image, Register};
 use zl_program_hints::Value::Number;
 use zl_program_hints::push_text;
-use zl_verify::{Seen, Way, seen_in, way_from};
+use zl_verify::{Seen, Stride, Way, seen_in, way_from};
 
 /// How many instructions are told of the beginning of a long way, and of its end.
 const SHOWN: usize = 6;
@@ -56,22 +56,46 @@ pub fn push_long_way(
     }
 }
 
-/// Adds the numbers of the instructions on the way, of many only the first and the last.
+/// Adds the instructions on the way and the turns of blocks, of many parts only the first and the last.
 fn push_way(hint: &mut String, way: &Way) -> Result<(), AllocError> {
-    let count = way.places.len();
-    let mut text = ": #";
-    for (n, place) in way.places.iter().enumerate() {
-        if n < SHOWN || n.saturating_add(SHOWN) >= count {
-            push_text(hint, text, &[Number(*place as u64)])?;
-            text = ", #";
+    let parts = way.strides.len();
+    let mut text = ": ";
+    for (n, stride) in way.strides.iter().enumerate() {
+        if n < SHOWN || n.saturating_add(SHOWN) >= parts {
+            hint.push_str(text)?;
+            push_stride(hint, *stride)?;
+            text = ", ";
         } else if n == SHOWN {
             hint.push_str(" ..")?;
-            text = " #";
+            text = " ";
         }
     }
-    let (text, number) = match way.again {
-        Some(place) => (" and again #: no budget will do", place),
-        None => (", which are #: no smaller budget will do", count),
-    };
-    push_text(hint, text, &[Number(number as u64)])
+    match way.again {
+        Some(place) => {
+            let text = " and again #: no budget will do";
+            push_text(hint, text, &[Number(place as u64)])
+        }
+        None if way.count > u64::from(Image::MOST_BUDGET) => {
+            hint.push_str(", which are more than 1000000: no budget will do")
+        }
+        None => {
+            let text = ", which are #: no smaller budget will do";
+            push_text(hint, text, &[Number(way.count)])
+        }
+    }
+}
+
+/// Adds the number of an instruction, or a block with its turns.
+fn push_stride(hint: &mut String, stride: Stride) -> Result<(), AllocError> {
+    match stride {
+        Stride::One(place) => push_text(hint, "#", &[Number(place as u64)]),
+        Stride::Turns { first, last, times } => {
+            let values = [
+                Number(first as u64),
+                Number(last as u64),
+                Number(u64::from(times)),
+            ];
+            push_text(hint, "the block # to # # times", &values)
+        }
+    }
 }

@@ -9,6 +9,7 @@ use Rattle.zl_code.specs.declared.boot.Statement.{Statement}
 use Rattle.zl_code.specs.declared.boot.Statement.TheVariants as statement
 use Rattle.zl_code.proofs.Stored.{bytes}
 use Rattle.zl_scenario.specs.Handles.{handles_of}
+unfoldable use Rattle.zl_code.specs.Blocks.{all_nest, all_stay, blocks_at}
 unfoldable use Rattle.zl_scenario.specs.Scenario.{job_said}
 use Rattle.zl_scenario.specs.declared.cause.Cause.{Cause}
 use Rattle.zl_scenario.specs.declared.cause.Cause.TheVariants as cause
@@ -60,7 +61,7 @@ empty_program = codes "program raw hex\n5a4c4142 0101 0000\n# a comment\n\n 0000
 
 a_program : reading_of empty_program ≡ whole (said (raw empty_image ∷ []) [] [] 1000 [])
 unfolding reading_from line_said statement_said mark_named body_named limit_said process_said block_said is_end program_said digits_spelled body_said is_word
-    digits_of bytes_of_digits first_fault header_fault pieces
+    digits_of bytes_of_digits first_fault header_fault pieces all_nest all_stay
 a_program = refl
 
 -- a checked program beside a raw one
@@ -72,13 +73,13 @@ empty_checked_program = codes "program checked hex\n5a4c414201010000000000000100
 
 two_programs : reading_of (empty_checked_program ++ empty_program) ≡ whole (said (checked empty_image ∷ raw empty_image ∷ []) [] [] 1000 [])
 unfolding reading_from line_said statement_said mark_named body_named limit_said process_said block_said is_end program_said digits_spelled body_said is_word
-    digits_of bytes_of_digits first_fault header_fault pieces
+    digits_of bytes_of_digits first_fault header_fault pieces all_nest all_stay
 two_programs = refl
 
 processes : reading_of (empty_program ++ codes "process 1 0 5\n\nprocess 77 0 0")
     ≡ whole (said (raw empty_image ∷ []) (statement.Process 1 0 5 [] ∷ statement.Process 77 0 0 [] ∷ []) (8 ∷ 10 ∷ []) 1000 [])
 unfolding reading_from line_said statement_said mark_named body_named limit_said process_said all_of block_said is_end program_said digits_spelled body_said
-    is_word number_of digits_of bytes_of_digits first_fault header_fault pieces
+    is_word number_of digits_of bytes_of_digits first_fault header_fault pieces all_nest all_stay
 processes = refl
 
 -- ---- handles of a process
@@ -106,14 +107,14 @@ objects_and_handles : reading_of (empty_program ++ codes "event\nchannel\n\n  po
     (statement.Event ∷ statement.Channel ∷ statement.Port ∷ statement.Process 1 0 7 (handle 3 (Some 8) ∷ handle 2 None ∷ handle 9 None ∷ []) ∷ [])
     (8 ∷ 9 ∷ 11 ∷ 12 ∷ []) 1000 [])
 unfolding reading_from line_said statement_said mark_named body_named limit_said process_said object_named all_of handle_of rights_named block_said is_end
-    program_said digits_spelled body_said is_word number_of digits_of bytes_of_digits first_fault header_fault pieces
+    program_said digits_spelled body_said is_word number_of digits_of bytes_of_digits first_fault header_fault pieces all_nest all_stay
 objects_and_handles = refl
 
 -- so is that eight handles are too many
 eight_handles : reading_of (empty_program ++ codes "process 1 0 0 1:* 1:* 1:* 1:* 1:* 1:* 1:* 1:*")
     ≡ whole (said (raw empty_image ∷ []) (statement.Process 1 0 0 (replicate 8 (handle 1 None)) ∷ []) (8 ∷ []) 1000 [])
 unfolding reading_from line_said statement_said mark_named body_named limit_said process_said all_of handle_of rights_named block_said is_end program_said
-    digits_spelled body_said is_word number_of digits_of bytes_of_digits first_fault header_fault pieces
+    digits_spelled body_said is_word number_of digits_of bytes_of_digits first_fault header_fault pieces all_nest all_stay
 eight_handles = refl
 
 -- the stored run
@@ -121,7 +122,7 @@ stored_run : reading_of
     (codes "program raw hex\n5a4c41420101080000000000640000000000 0000\n46020300000000000000000000000000\n01050000000000000800000000000000\n47020300050000000000000000000000\n41020304000000000000008000000000\n40020300000000000000000000000000\n40020400000000000000000000000000\n40020400000000000000000000000000\n53000000000000000000000000000000\nend\nprocess 1 0 0\n--\n2 20\n")
     ≡ whole (scheduled 13 (said (raw bytes ∷ []) (statement.Process 1 0 0 [] ∷ []) (12 ∷ []) 1000 ((2, 20) ∷ [])))
 unfolding reading_from line_said statement_said mark_named body_named limit_said process_said all_of block_said is_end program_said digits_spelled body_said
-    turns_said pair_said is_word number_of digits_of bytes_of_digits first_fault header_fault instr_fault row_of pieces
+    turns_said pair_said is_word number_of digits_of bytes_of_digits first_fault header_fault instr_fault row_of pieces all_nest all_stay blocks_at
 stored_run = refl
 
 -- ---- first faults
@@ -211,7 +212,7 @@ outside_ascii_in_block = refl
 
 no_image : reading_of (codes "limit 5\nprogram raw hex\n5a\nend\nnonsense") ≡ fails (said [] [] [] 5 []) 2 cause.Program
 unfolding reading_from line_said statement_said mark_named body_named limit_said process_said block_said is_end program_said digits_spelled body_said is_word
-    number_of digits_of bytes_of_digits first_fault header_fault pieces
+    number_of digits_of bytes_of_digits first_fault header_fault pieces all_nest all_stay
 no_image = refl
 
 -- no block is opened by a wrong line
@@ -243,7 +244,7 @@ abbrev empty_digits : List ℕ
 empty_digits = flat_map hex_digits_of_byte empty_image
 
 too_many_programs : program_said full false (digits_spelled empty_digits) ≡ Err cause.Limit
-unfolding program_said digits_spelled body_said bytes_of_digits first_fault header_fault pieces
+unfolding program_said digits_spelled body_said bytes_of_digits first_fault header_fault pieces all_nest all_stay
 too_many_programs = refl
 
 -- it is Syntax or Program before
@@ -252,20 +253,20 @@ unfolding program_said digits_spelled body_said
 odd_digits_first = refl
 
 no_image_first : program_said full false (digits_spelled (1 ∷ 1 ∷ [])) ≡ Err cause.Program
-unfolding program_said digits_spelled body_said bytes_of_digits first_fault header_fault pieces
+unfolding program_said digits_spelled body_said bytes_of_digits first_fault header_fault pieces all_nest all_stay
 no_image_first = refl
 
 -- that it is one is asked of a checked program too, and only then whether the rules refuse it
 too_many_checked : program_said full true (digits_spelled empty_digits) ≡ Err cause.Limit
-unfolding program_said digits_spelled body_said bytes_of_digits first_fault header_fault pieces
+unfolding program_said digits_spelled body_said bytes_of_digits first_fault header_fault pieces all_nest all_stay
 too_many_checked = refl
 
 whole_before_limit : whole_at (at full (Block 9 true (Hex empty_digits))) (codes " end ") ≡ Some (checked empty_image)
-unfolding whole_at whole_in digits_spelled is_end is_word bytes_of_digits first_fault header_fault pieces
+unfolding whole_at whole_in digits_spelled is_end is_word bytes_of_digits first_fault header_fault pieces all_nest all_stay
 whole_before_limit = refl
 
 no_image_is_not_whole : whole_at (at full (Block 9 true (Hex (1 ∷ 1 ∷ [])))) (codes "end") ≡ None
-unfolding whole_at whole_in digits_spelled is_end is_word bytes_of_digits first_fault header_fault pieces
+unfolding whole_at whole_in digits_spelled is_end is_word bytes_of_digits first_fault header_fault pieces all_nest all_stay
 no_image_is_not_whole = refl
 
 -- only the line `end` makes a program whole

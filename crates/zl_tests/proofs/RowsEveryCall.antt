@@ -21,14 +21,16 @@ use Rattle.zl_code.specs.declared.history.TraceItem.TheVariants as item
 use Rattle.zl_code.specs.declared.image.Start.{Start}
 use Rattle.zl_code.specs.declared.instr.Instr.TheVariants as instr
 use Rattle.zl_code.specs.declared.instr.LocalInstr.TheVariants as local
-use Rattle.zl_code.specs.Image.{Image, Program}
+use Rattle.zl_code.specs.Blocks.{all_nest, all_stay, blocks_at}
+use Rattle.zl_code.specs.Image.{Image, Program, blank_image}
 use Rattle.zl_code.specs.Spells.{local_parts}
 use Rattle.zl_code.specs.Headline.{GoesWell, IsNeverRefused, IsStarted, IsSizedBoot, IsProperStart, IsCoveredFrom, CoveredGoWell, StartsChild, by_boot}
 use Rattle.zl_code.specs.Starting.{created_process, program_of}
 use Rattle.zl_code.proofs.JoinedItems.{joined_go_well}
 use Rattle.zl_code.proofs.Running.{run_by, IsLegalHistory-by, computing, world_after}
 use Rattle.zl_code.proofs.RowsHeadline.{covered_by_call}
-use Rattle.zl_verify.specs.Checks.{IsAccepted, HasStepBound}
+use Rattle.zl_verify.specs.Lists.{at}
+use Rattle.zl_verify.specs.Checks.{HasStepBound}
 use Rattle.zl_verify.specs.Covered.{IsVerified}
 use Rattle.zl_verify.proofs.CoveredRuns.{covered_go_well}
 use Rattle.zl_tests.proofs.Typed.{found, numbers, IsTyping-by, IsStepBound-by, typing}
@@ -42,9 +44,7 @@ start k rights = record { kind = Some k; rights = rights_of rights }
 -- Register 0 has one end of a channel and 2 the other, 3 an event, 4 a port, 5 a job, 6 the event once more, to be sent.
 -- 16 stays 0, and 31 has the status.
 abbrev pub image : Image
-image = record {
-  raw = false;
-  memory = 0;
+image = record blank_image {
   budget = 40;
   needs = condition.NewChannel ∷ condition.NewEvent ∷ condition.NewEventpair ∷ condition.NewPort ∷ condition.NewProcess ∷ [];
   starts =
@@ -103,13 +103,9 @@ image = record {
 
 -- the child gets an event that it may signal, does three instructions by itself, and exits with its word
 abbrev child_image : Image
-child_image = record {
-  raw = false;
-  memory = 0;
+child_image = record blank_image {
   budget = 3;
-  needs = [];
   starts = start kind.Event 4096 ∷ [];
-  slots = [];
   code =
       instr.Local (local.Const 2 1)
       ∷ instr.Local (local.Const 3 2)
@@ -123,17 +119,23 @@ abbrev library : Library
 library = record { checked = true; image = image } ∷ record { checked = true; image = child_image } ∷ []
 
 -- The image has a typing, and a step bound of it.
-accepted : IsAccepted image (found image) (numbers image)
+accepted : HasStepBound image
 unfolding typing
-accepted = record { typing = IsTyping-by image (found image) refl; bound = IsStepBound-by image (found image) (numbers image) refl }
+accepted = record {
+  states = at (found image);
+  typing = IsTyping-by image (found image) refl;
+  steps = numbers image;
+  bound = IsStepBound-by image (found image) refl;
+}
 
 -- So has that of the child.
-accepted_child : IsAccepted child_image (found child_image) (numbers child_image)
+accepted_child : HasStepBound child_image
 unfolding typing
 accepted_child = record {
+  states = at (found child_image);
   typing = IsTyping-by child_image (found child_image) refl;
-  bound = IsStepBound-by child_image (found child_image)
-      (numbers child_image) refl;
+  steps = numbers child_image;
+  bound = IsStepBound-by child_image (found child_image) refl;
 }
 
 -- ---- the boot
@@ -180,7 +182,7 @@ boots = record {
 }
 
 sized : IsSizedBoot library statements boot
-unfolding computing local_parts boot_effect
+unfolding computing local_parts boot_effect all_nest all_stay blocks_at
 sized = record { images = (refl, (refl, tt)); words = (omega arith, (omega arith, (omega arith, (omega arith, (omega arith, tt))))); boots = boots }
 
 -- ---- the start
@@ -339,10 +341,8 @@ all_go_well = covered_go_well library statements boot verified sized items
     verified = record { images = sized.images; bounds = λ n i at. bound n i at }
       where
         bound : (n : ℕ) (i : Image) → slice_get library n ≡ Some (record { checked = true; image = i }) → HasStepBound i
-        bound zero i at = subst (λ (g : Program). HasStepBound g.image) (same_Some _ _ at)
-            (record { states = _; typing = accepted.typing; steps = _; bound = accepted.bound })
-        bound (suc zero) i at = subst (λ (g : Program). HasStepBound g.image) (same_Some _ _ at)
-            (record { states = _; typing = accepted_child.typing; steps = _; bound = accepted_child.bound })
+        bound zero i at = subst (λ (g : Program). HasStepBound g.image) (same_Some _ _ at) accepted
+        bound (suc zero) i at = subst (λ (g : Program). HasStepBound g.image) (same_Some _ _ at) accepted_child
         bound (suc (suc n)) i at = absurd (none-some _ at)
 
 -- process 7 is one of them, from the boot to the end

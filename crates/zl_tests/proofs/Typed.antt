@@ -1,8 +1,11 @@
 -- A typing of an image and a step bound of it, found and tested by computation, where an instruction is led to from one place alone.
 use Rattle.zl_code.proofs.Common.{◌≡◌, ◌+◌, ◌-◌, ◌==◌, ◌&&◌, ℕ, zero, suc, arith, Bool, true, false, IsTrue, List, [], ◌∷◌, refl, subst, replicate, length}
 use Rattle.zl_code.proofs.Common.{list_all, and_parts, eqb-true, ltb-true, nat_lt, Option, Some, None, Result, Ok, Err}
-use Rattle.std.specs.Prelude.{slice_set, slice_index_or}
+use Rattle.std.specs.Prelude.{slice_get, slice_set, slice_index_or}
 use Rattle.zl_code.specs.declared.instr.Instr.{Instr}
+use Rattle.zl_code.specs.declared.blocks.Mark.{Mark}
+use Rattle.zl_code.specs.declared.blocks.Mark.TheVariants as mark
+use Rattle.zl_code.specs.Blocks.{marks_of}
 use Rattle.zl_code.specs.Image.{Image}
 use Rattle.zl_code.specs.Instructions.{row_of}
 use Rattle.zl_code.specs.Limits.{register_count}
@@ -18,7 +21,7 @@ use Rattle.zl_abs.specs.LocalRules.{local_rule}
 use Rattle.zl_abs.specs.CallRules.{examined_all, are_distinct, uses_of, call_rule}
 use Rattle.zl_abs.specs.Typing.{AllLead, Holds, IsAbove, IsTyping, rule_with}
 use Rattle.zl_verify.specs.Lists.{at}
-use Rattle.zl_verify.specs.Steps.{AllBelow, IsBelow, IsStepBound, leads}
+use Rattle.zl_verify.specs.Steps.{AllBelow, IsStepBound, leads, leads_by, spots}
 
 abbrev pub Found : Type 0
 Found = List (Option State)
@@ -136,48 +139,48 @@ IsTyping-by i f h = record {
     here : (n : ℕ) (s : State) → at f n ≡ Some s → IsTrue (fits (bounds_of i.code) i f n s)
     here = passed (fits (bounds_of i.code) i f) f both.1
 
--- ---- a step bound
-
-abbrev Numbers : Type 0
-Numbers = List (Option ℕ)
+-- ---- a step bound, where there is no block and no edge leads back
 
 -- one less at each instruction than at the one before, from the budget on
-abbrev falling : ℕ → List Instr → Numbers
-falling budget [] = []
-falling budget (x ∷ xs) = Some budget ∷ falling (budget - 1) xs
+abbrev pub numbers : Image → ℕ → List ℕ → ℕ
+numbers i n cs = i.budget - n
 
-abbrev pub numbers : Image → Numbers
-numbers i = falling i.budget i.code
+abbrev is_plain : Option Mark → Bool
+is_plain (Some (mark.Rep imm end)) = false
+is_plain (Some (mark.EndRep rep)) = false
+is_plain _ = true
 
-abbrev is_below : Option ℕ → ℕ → Bool
-is_below None m = false
-is_below (Some k) m = nat_lt k m
+abbrev are_below : Image → ℕ → List ℕ → Bool
+are_below i k [] = true
+are_below i k (m ∷ ms) = nat_lt (i.budget - m) k && are_below i k ms
 
-abbrev are_below : Numbers → ℕ → List ℕ → Bool
-are_below steps m [] = true
-are_below steps m (n ∷ ns) = is_below (at steps n) m && are_below steps m ns
+abbrev falls_at : Image → Found → ℕ → State → Bool
+falls_at i f n s = is_plain (slice_get (marks_of i.code) n) && are_below i (i.budget - n) (leads i (at f) n)
 
-below_by : (o : Option ℕ) (m : ℕ) → IsTrue (is_below o m) → IsBelow o m
-below_by None m h = cc
-below_by (Some k) m h = ltb-true k m h
+below_by : (i : Image) (o : Option Mark) (n k : ℕ) (cs ms : List ℕ) → IsTrue (is_plain o) → IsTrue (are_below i k ms) → AllBelow (numbers i) k (spots o n cs ms)
+below_by i o n k cs [] p h = tt
+below_by i None n k cs (m ∷ ms) p h =
+    let both = and_parts (nat_lt (i.budget - m) k) _ h in
+    (ltb-true (i.budget - m) k both.0, below_by i None n k cs ms p both.1)
+below_by i (Some mark.Plain) n k cs (m ∷ ms) p h =
+    let both = and_parts (nat_lt (i.budget - m) k) _ h in
+    (ltb-true (i.budget - m) k both.0, below_by i (Some mark.Plain) n k cs ms p both.1)
+below_by i (Some _) n k cs (m ∷ ms) p h = cc
 
-all_below_by : (steps : Numbers) (m : ℕ) (ns : List ℕ) → IsTrue (are_below steps m ns) → AllBelow (at steps) m ns
-all_below_by steps m [] h = tt
-all_below_by steps m (n ∷ ns) h =
-    let both = and_parts (is_below (at steps n) m) _ h in
-    (below_by (at steps n) m both.0, all_below_by steps m ns both.1)
+abbrev pub is_step_bound : Image → Found → Bool
+is_step_bound i f = all_from (falls_at i f) 0 f
 
-abbrev pub is_step_bound : Image → Found → Numbers → Bool
-is_step_bound i f steps = all_from (λ n s. is_below (at steps n) (i.budget + 1)) 0 f && all_from (λ n m. are_below steps m (leads i (at f) n)) 0 steps
-
-pub IsStepBound-by : (i : Image) (f : Found) (steps : Numbers) → IsTrue (is_step_bound i f steps) → IsStepBound i (at f) (at steps)
-IsStepBound-by i f steps h = record {
-  within = λ n s is. below_by (at steps n) (i.budget + 1) (passed (λ n s. is_below (at steps n) (i.budget + 1)) f both.0 n s is);
-  falls = λ n m is. all_below_by steps m (leads i (at f) n) (passed (λ n m. are_below steps m (leads i (at f) n)) steps both.1 n m is);
+pub IsStepBound-by : (i : Image) (f : Found) → IsTrue (is_step_bound i f) → IsStepBound i (at f) (numbers i)
+IsStepBound-by i f h = record {
+  within = λ n s cs is are. omega arith;
+  falls = λ n cs are. by n cs (at f n) refl;
 }
   where
-    both : IsTrue (all_from (λ n s. is_below (at steps n) (i.budget + 1)) 0 f) × IsTrue (all_from (λ n m. are_below steps m (leads i (at f) n)) 0 steps)
-    both = and_parts (all_from (λ n s. is_below (at steps n) (i.budget + 1)) 0 f) _ h
+    by : (n : ℕ) (cs : List ℕ) (o : Option State) → at f n ≡ o → AllBelow (numbers i) (i.budget - n) (spots (slice_get (marks_of i.code) n) n cs (leads_by i n o))
+    by n cs None is = tt
+    by n cs (Some s) is =
+        let both = and_parts (is_plain (slice_get (marks_of i.code) n)) _ (passed (falls_at i f) f h n s is) in
+        below_by i (slice_get (marks_of i.code) n) n (i.budget - n) cs _ both.0 (rw is at both.1)
 
 -- names what has to unfold for both to compute
 unfoldable pub typing : Unit {0}

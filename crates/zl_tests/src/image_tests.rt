@@ -2,7 +2,7 @@
 
 use std::alloc::Global;
 use std::test::*;
-use zl_code::{Columns, DecodeFault, Ending, Image, Instr, Row, decode, encode};
+use zl_code::{Columns, DecodeFault, Ending, Image, Row, decode, encode, upgrade};
 use zl_rights::Condition;
 
 /// A raw program of eight instructions, which makes an event, signals, duplicates and closes it, and
@@ -82,15 +82,15 @@ fn each_byte_changed(rt: HostRuntime) {
             }
         }
     }
-    // Each offset's own value; the raw mark; the memory 0 to 65,536; the budget 1 to 1,000,000 (254
+    // Each offset's own value; version 2; the raw mark; the memory 0 to 65,536; the budget 1 to 1,000,000 (254
     // low bytes, 255 and 15 more); the needs; 48 more opcodes; 31 more registers.
     assert_eq!(rt;
         images,
-        36 + 1 + (255 + 255 + 1) + (254 + 255 + 15) + 31 + 48 + 31
+        36 + 1 + 1 + (255 + 255 + 1) + (254 + 255 + 15) + 31 + 48 + 31
     );
 }
 
-/// The image of `DECLARED`, one thing after the other.
+/// The image of `DECLARED` without its instruction, one thing after the other.
 fn declared_again(alloc: Global) -> Result<Vec<u8>, DecodeFault> {
     let declared = decode(alloc, &DECLARED)?;
     let mut image = Image::new(alloc);
@@ -116,12 +116,6 @@ fn declared_again(alloc: Global) -> Result<Vec<u8>, DecodeFault> {
             image.push_slot_array(*array)?;
         }
     }
-    for instr in declared.code() {
-        let again = Instr::from_bytes(false, instr.to_bytes())?;
-        if image.len() < Image::MOST_INSTRUCTIONS {
-            image.push_instr(again)?;
-        }
-    }
     Ok(encode(alloc, &image)?)
 }
 
@@ -129,9 +123,44 @@ fn declared_again(alloc: Global) -> Result<Vec<u8>, DecodeFault> {
 #[test]
 fn built_one_by_one(rt: HostRuntime) {
     match declared_again(rt.alloc()) {
-        Ok(bytes) => assert_eq!(rt; bytes.as_slice(), DECLARED.as_slice()),
+        Ok(bytes) => {
+            let mut expected = [0; 36];
+            expected.copy_from_slice(&DECLARED[..36]);
+            expected[6] = 0;
+            assert_eq!(rt; bytes.as_slice(), expected.as_slice());
+        }
         Err(fault) => assert_eq!(rt; fault, DecodeFault::NoMemory),
     }
+}
+
+/// What the bytes of an image of version 1 are in version 2, or the instruction that holds it back.
+fn upgraded(alloc: Global, bytes: &[u8]) -> Result<Result<Vec<u8>, usize>, DecodeFault> {
+    match upgrade(decode(alloc, bytes)?) {
+        Ok(image) => Ok(Ok(encode(alloc, &image)?)),
+        Err(kept) => Ok(Err(kept.at)),
+    }
+}
+
+#[test]
+fn upgrades(rt: HostRuntime) -> Result<(), Fail> {
+    let mut second = EIGHT_BYTES;
+    second[4] = 2;
+    for bytes in [EIGHT_BYTES, second] {
+        let image = upgraded(rt.alloc(), &bytes).ok().ok_or("it is an image")?;
+        assert!(rt; image.is_ok_and(|image| image.as_slice() == second.as_slice()));
+    }
+    // Opcodes that version 2 knows, in the third and in the sixth instruction.
+    let mut held = EIGHT_BYTES;
+    held[20 + 16 * 2] = 27;
+    held[20 + 16 * 5] = 26;
+    let image = upgraded(rt.alloc(), &held).ok().ok_or("it is an image")?;
+    assert!(rt; image.is_err_and(|at| at == 2));
+    // No version knows this one.
+    held[20 + 16 * 2] = 28;
+    held[20 + 16 * 5] = 28;
+    let image = upgraded(rt.alloc(), &held).ok().ok_or("it is an image")?;
+    assert!(rt; image.is_ok());
+    Ok(())
 }
 
 #[test]

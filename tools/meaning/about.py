@@ -162,7 +162,11 @@ ABOUT = {
 
 def local_text(one, before, cpu):
     """What a local instruction wrote, as `r2 = 5`, or where it went on; `before` are the registers before it."""
-    if one.row.is_jump:
+    if one.name == "rep":
+        return f"a block begins, {one.number} turns left"
+    if one.name == "endrep" and cpu.place == one.target + 1:
+        return f"goes on at {cpu.place}, {cpu.counters[0]} turns left"
+    if one.row.is_jump or one.name == "endrep":
         return f"goes on at {cpu.place}"
     first, now = one.registers[0], cpu.registers[one.registers[0]]
     if one.name in STORES:

@@ -1,5 +1,7 @@
 """The text of a program with what is known of it in comments."""
 from meaning.ending import told_codes
+from meaning.image import MOST_BUDGET
+from meaning.steps import Turns, count_of
 from meaning.texts import bare, is_instruction
 from meaning.values import state_text
 from meaning.ways import counted_way, shortest_way, ways_to
@@ -68,13 +70,15 @@ def ended(texts, found, verdict):
 def counted(texts, found, first):
     """The way that a budget counts."""
     places, again = counted_way(found, first)
-    budget = found.image.budget
+    budget, count = found.image.budget, count_of(places)
     if again is not None:
         yield f"; no budget will do: without a wait or an exit it goes round, and {again} comes again"
-    elif len(places) > budget:
-        yield f"; the budget is {budget}, and this way has {len(places)} instructions without a wait or an exit"
+    elif count > MOST_BUDGET:
+        yield f"; no budget will do: this way has {count} instructions without a wait or an exit"
+    elif count > budget:
+        yield f"; the budget is {budget}, and this way has {count} instructions without a wait or an exit"
     else:
-        yield f"; the budget is {budget}, and {max(len(places), 1)} would do: the longest way has {len(places)}"
+        yield f"; the budget is {budget}, and {max(count, 1)} would do: the longest way has {count}"
     yield from way(texts, places)
 
 
@@ -103,7 +107,11 @@ def way(texts, places):
             if number == MOST_SHOWN // 2:
                 yield f";   .. {len(places) - MOST_SHOWN} more .."
             continue
+        if isinstance(at, Turns):
+            yield f";   {at.first:4} to {at.last}, lines {texts[at.first][0]} to {texts[at.last][0]}, {at.times} times"
+            continue
         line, text = texts[at]
         follows = places[number + 1] if number + 1 < len(places) else None
+        follows = follows.first if isinstance(follows, Turns) else follows
         jumps = " -- jumps" if follows is not None and follows != at + 1 else ""
         yield f";   {at:4} line {line:4}  {text}{jumps}"

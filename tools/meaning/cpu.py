@@ -1,6 +1,8 @@
 """What a process is by itself: registers, memory, slots, and its local instructions."""
 import operator
 
+from meaning.blocks import MOST_BLOCKS
+
 WORD = (1 << 64) - 1
 TESTS = {
     "jmp": lambda x, n: True, "jz": lambda x, n: x == 0, "jnz": lambda x, n: x != 0,
@@ -23,9 +25,10 @@ class Stuck(Exception):
 
 
 class Cpu:
-    """A process as its own instructions see it. Memory and slot arrays are made anew where they change."""
+    """A process as its own instructions see it. Memory, slot arrays and the counters of the blocks that it is in, the
+    innermost first, are made anew where they change."""
 
-    __slots__ = ("image", "place", "registers", "memory", "slots")
+    __slots__ = ("image", "place", "registers", "memory", "slots", "counters")
 
     def __init__(self, image):
         self.image = image
@@ -33,16 +36,18 @@ class Cpu:
         self.registers = [0] * 32
         self.memory = bytes(image.memory)
         self.slots = tuple((0,) * length for _, length, _ in image.slots)
+        self.counters = ()
 
     def copy(self):
         new = object.__new__(Cpu)
         new.image, new.place, new.memory, new.slots = self.image, self.place, self.memory, self.slots
+        new.counters = self.counters
         new.registers = self.registers[:]
         return new
 
     def parts(self):
         """All of it but the image, as one value that can be compared."""
-        return self.place, tuple(self.registers), self.memory, self.slots
+        return self.place, tuple(self.registers), self.memory, self.slots, self.counters
 
     def next(self):
         """The instruction that stands next, or Stuck."""
@@ -133,9 +138,26 @@ def store(length):
     return write
 
 
+def rep(cpu, one):
+    """A block begins, with its counter."""
+    if len(cpu.counters) >= MOST_BLOCKS:
+        raise Stuck(f"there are {MOST_BLOCKS} counters already")
+    cpu.counters = (one.number, *cpu.counters)
+    return cpu.place + 1
+
+
+def endrep(cpu, one):
+    """The innermost counter is one less, and its block begins again, or it is dropped."""
+    if not cpu.counters:
+        raise Stuck("there is no counter")
+    left, *others = cpu.counters
+    cpu.counters = (left - 1, *others) if left > 1 else tuple(others)
+    return one.target + 1 if left > 1 else cpu.place + 1
+
+
 # What each local instruction does.
 LOCALS = {
-    "const": const, "take": take, "swap": swap,
+    "const": const, "take": take, "swap": swap, "rep": rep, "endrep": endrep,
     **{name: jump(test) for name, test in TESTS.items()},
     **{name: compute(result) for name, result in RESULTS.items()},
     **{name: load(length) for name, length in LOADS.items()},

@@ -78,6 +78,8 @@ def edges(image, at, state):
     one = image.code[at]
     if one.row is None or one.name == "process_exit":
         return []
+    if one.name == "endrep":
+        return [(one.target + 1, state), (at + 1, state)]
     if not one.row.is_jump:
         return [(at + 1, behind(one, state))]
     return [(one.target, refined(one, state, True)), (at + 1, refined(one, state, False))]

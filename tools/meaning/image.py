@@ -3,11 +3,14 @@ import re
 from dataclasses import dataclass
 from functools import cached_property
 
-from meaning.instructions import BY_OPCODE, PAUSES, WRITTEN, Row, handle_places
+from meaning.blocks import first_breach
+from meaning.instructions import PAUSES, WRITTEN, Row, handle_places, row_at
 from meaning.numbers import DEFAULT_RIGHTS, KIND_NAMES, KINDS, KNOWN_RIGHTS, NEEDS
 
 MAGIC = b"ZLAB"
+VERSIONS = (1, 2)
 MOST_BYTES = 65676
+MOST_BUDGET = 1_000_000
 NO_REGISTER = 0xFF
 
 
@@ -71,6 +74,7 @@ class Image:
     """A program. Starts are pairs of a kind and rights, slots have a length between the two; the kind is
     None for any."""
 
+    version: int
     raw: bool
     memory: int
     budget: int
@@ -90,24 +94,27 @@ def decode(content):
         raise ImageFault("Short")
     if content[:4] != MAGIC:
         raise ImageFault("Magic")
-    if content[4] != 1:
+    if content[4] not in VERSIONS:
         raise ImageFault("Version")
     raw, length, memory = content[5], number_at(content, 6, 2), number_at(content, 8)
     budget, needs, starts, slots = number_at(content, 12), content[16], content[17], content[18]
-    if (raw > 1 or length > 4096 or memory > 65536 or not 1 <= budget <= 1000000
+    if (raw > 1 or length > 4096 or memory > 65536 or not 1 <= budget <= MOST_BUDGET
             or needs & ~sum(NEEDS.values()) or starts > 7 or slots > 8 or content[19]):
         raise ImageFault("BadHeader")
     places = [20 + 8 * n for n in range(starts + slots)]
     begin = 20 + 8 * len(places)
     if len(content) != begin + 16 * length:
         raise ImageFault("Length")
-    return Image(
-        raw=raw == 1, memory=memory, budget=budget,
+    image = Image(
+        version=content[4], raw=raw == 1, memory=memory, budget=budget,
         needs=tuple(name for name, bit in NEEDS.items() if needs & bit),
         starts=tuple(start_in(content[place:place + 8]) for place in places[:starts]),
         slots=tuple(slots_in(content[place:place + 8]) for place in places[starts:]),
-        code=tuple(instruction_in(content[at:at + 16], raw == 1)
+        code=tuple(instruction_in(content[at:at + 16], raw == 1, content[4])
                    for at in range(begin, len(content), 16)))
+    if first_breach(image.code) is not None:
+        raise ImageFault("BadBlock")
+    return image
 
 
 def declared(content):
@@ -134,9 +141,9 @@ def slots_in(content):
     return kind, length, rights
 
 
-def instruction_in(content, raw):
+def instruction_in(content, raw, version):
     """The instruction of these 16 bytes."""
-    row = BY_OPCODE.get(content[0])
+    row = row_at(version, content[0])
     if row is None:
         if not raw:
             raise ImageFault("UnknownOp")
@@ -167,7 +174,7 @@ def has_unused(row, number, target, handles, listed):
     """Whether something behind the registers isn't 0 that the row doesn't use."""
     if row.ending == "l":
         return any(register != NO_REGISTER for register in handles[listed:])
-    return bool((number and not row.has_number) or (target and not row.is_jump))
+    return bool((number and not row.has_number) or (target and not row.has_target))
 
 
 def encode(image):
@@ -179,8 +186,8 @@ def encode(image):
         return little(KINDS[kind] if kind else 0, 2) + little(length, 2) + little(rights)
 
     needs = sum(NEEDS[need] for need in image.needs)
-    header = (MAGIC + bytes([1, image.raw]) + little(len(image.code), 2) + little(image.memory) + little(image.budget)
-              + bytes([needs, len(image.starts), len(image.slots), 0]))
+    header = (MAGIC + bytes([image.version, image.raw]) + little(len(image.code), 2) + little(image.memory)
+              + little(image.budget) + bytes([needs, len(image.starts), len(image.slots), 0]))
     declarations = [declaration(kind, 0, rights) for kind, rights in image.starts]
     declarations += [declaration(*slots) for slots in image.slots]
     return header + b"".join(declarations) + b"".join(encoded(one) for one in image.code)

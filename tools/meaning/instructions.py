@@ -30,14 +30,25 @@ class Row:
     grows: bool = False
     # what a call gives behind the status, with the kinds of handles to new objects
     gives: tuple = ()
+    # the first version of an image that knows it
+    version: int = 1
 
     @property
     def is_call(self):
         return self.opcode >= 64
 
     @property
-    def is_jump(self):
+    def has_target(self):
         return "t" in self.ending
+
+    @property
+    def is_of_blocks(self):
+        """Whether a counted block begins or ends with it."""
+        return self.name in ("rep", "endrep")
+
+    @property
+    def is_jump(self):
+        return self.has_target and not self.is_of_blocks
 
     @property
     def has_number(self):
@@ -62,17 +73,26 @@ def wanted(kinds="any", right="-"):
 
 def row_in(line):
     """The row of a line of the table."""
-    opcode, name, uses, ending, condition, grows, gives = (line.split(" | ") + [""] * 7)[:7]
+    opcode, name, uses, ending, condition, grows, gives, version = (line.split(" | ") + [""] * 8)[:8]
     ending, _, listed = ending.partition(", each ")
     words = [use.split() for use in [*uses.split(", "), listed] if use]
     wants = tuple(wanted(*use[1:]) for use in words if USES[use[0]] in (HANDLE, CONSUMED))
     fields = "".join(USES[use[0]] for use in words[:len(words) - bool(listed)])
-    return Row(int(opcode), name, fields, ENDINGS[ending], wants, condition or None, bool(grows), tuple(gives.split()))
+    return Row(int(opcode), name, fields, ENDINGS[ending], wants, condition or None, bool(grows), tuple(gives.split()),
+               int(version.removeprefix("version ") or 1))
 
 
 ROWS = [row_in(line) for line in TABLE.read_text().splitlines() if not line.startswith("#")]
 BY_NAME = {row.name: row for row in ROWS}
 BY_OPCODE = {row.opcode: row for row in ROWS}
+
+
+def row_at(version, opcode):
+    """The row of this opcode in an image of this version, if it is known there."""
+    row = BY_OPCODE.get(opcode)
+    return row if row and row.version <= version else None
+
+
 # At these the count of instructions begins anew.
 PAUSES = ("wait_one", "port_wait", "process_exit")
 

@@ -8,8 +8,9 @@ import re
 from dataclasses import dataclass
 
 from meaning.cpu import WIDTHS
-from meaning.image import decode
+from meaning.image import MOST_BUDGET, decode
 from meaning.mending import all_refusals
+from meaning.rules import target_of
 from meaning.scenario import is_scenario, is_skipped, words_of
 from meaning.texts import bare, is_instruction
 from meaning.trouble import Trouble
@@ -262,7 +263,8 @@ def told_by_tools(lines, places, found, refusal):
     page = f"docs/CHECK.md#{cause.lower()}"
     if cause == "Budget":
         steps = [found.steps.get(place) for place in found.leads]
-        cure = ("no budget will do: a counter isn't followed, so write the loop out by repeat, or wait in it" if None in steps
+        cure = ("no budget will do: a counter isn't followed, so count by rep and endrep, or wait in it" if None in steps
+                else f"no budget will do: there are {max(steps)}" if max(steps) > MOST_BUDGET
                 else f"a budget of {max(steps)} would do")
         return f"from here more than {found.image.budget} instructions may follow without a wait or an exit", cure, page
     if cause == "UndeclaredNeed":
@@ -306,7 +308,7 @@ def way_out(lines):
 
 def giver_of(code, refusal):
     """The instruction above that gave the register its handle or 0, if none is jumped to between."""
-    targets = {one.target for one in code if one.row and one.row.is_jump}
+    targets = {target_of(one) for one in code}
     for at in range(refusal.at - 1, -1, -1):
         one = code[at]
         if at + 1 in targets or one.row is None:

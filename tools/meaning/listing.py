@@ -7,7 +7,8 @@ def kind_text(kind):
 
 def directives(image):
     """The lines of the directives."""
-    lines = [".raw"] if image.raw else []
+    lines = [f".version {image.version}"] if image.version > 1 else []
+    lines += [".raw"] if image.raw else []
     lines += [f".memory {image.memory}", f".budget {image.budget}"]
     lines += [f".need {need}" for need in image.needs]
     lines += [f".start {kind_text(kind)} {rights}" for kind, rights in image.starts]
@@ -31,7 +32,7 @@ def instruction_text(one, names):
         operands.append(str(one.number))
     if one.row.is_jump:
         operands.append(names.get(one.target, str(one.target)))
-    return f"{one.name} {', '.join(operands)}"
+    return f"{one.name} {', '.join(operands)}".rstrip()
 
 
 def listing(image):

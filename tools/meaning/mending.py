@@ -1,8 +1,9 @@
 """The verifier's search that goes on behind what is refused, as if its author had mended that place alone."""
 from meaning.numbers import KNOWN_RIGHTS
 from meaning.rules import Refused, edges
+from meaning.steps import steps_of
 from meaning.values import ANYTHING, ZERO, Has, refined
-from meaning.verifier import OF_DECLARATIONS, Refusal, Search, steps_of
+from meaning.verifier import OF_DECLARATIONS, Refusal, Search
 
 # So many places of one instruction are mended.
 MOST = 12

@@ -40,14 +40,25 @@ def edges(image, bounds, place, state):
         raise Refused("IllegalOp")
     if one.row.is_jump:
         jumped, passed = ways(one, state)
+    elif one.row.is_of_blocks:
+        # an endrep leads back to behind its rep, unless the block is gone through but once
+        jumped, passed = state if one.name == "endrep" and image.code[one.target].number > 1 else None, state
     else:
         jumped, passed = None, (call if one.is_call else local)(image, bounds, one, state)
-    if jumped is not None and one.target >= len(image.code):
+    target = target_of(one)
+    if jumped is not None and target >= len(image.code):
         raise Refused("BadJump")
     if passed is not None and place + 1 >= len(image.code):
         raise Refused("FallsOff")
-    found = [(one.target, jumped)] if jumped is not None else []
+    found = [(target, jumped)] if jumped is not None else []
     return found + ([(place + 1, passed)] if passed is not None else [])
+
+
+def target_of(one):
+    """Where an instruction may lead beside the next one, if it may."""
+    if one.name == "endrep":
+        return one.target + 1
+    return one.target if one.row and one.row.is_jump else None
 
 
 # ---- local instructions

@@ -4,8 +4,9 @@ A text with a fault is the lab's to refuse; here it is no more than a TextFault 
 """
 import re
 
+from meaning.blocks import first_breach, paired
 from meaning.image import Image, Instruction, encode
-from meaning.instructions import BY_NAME
+from meaning.instructions import BY_NAME, row_at
 from meaning.numbers import KINDS, NEEDS
 
 REGISTER = re.compile(r"r(?:[12]?[0-9]|3[01])")
@@ -51,11 +52,13 @@ def register(word):
     return int(word[1:])
 
 
-def instruction(words, labels):
-    """The instruction of a line's words."""
+def instruction(version, words, labels):
+    """The instruction of a line's words; a rep and an endrep aren't paired yet."""
     if words[0] == ".bytes":
         return Instruction(None, bytes.fromhex(words[1]))
-    row = BY_NAME[words[0]]
+    row = row_at(version, BY_NAME[words[0]].opcode)
+    if row is None:
+        raise ValueError(words[0])
     used = len(row.fields)
     registers = tuple(register(word) for word in words[1:1 + used])
     rest = words[1 + used:]
@@ -86,7 +89,7 @@ def assemble(lines):
                 continue
             if bare(line).endswith(":"):
                 labels[words[0][:-1]] = len(code)
-            elif words[0] in (".raw", ".memory", ".budget"):
+            elif words[0] in (".version", ".raw", ".memory", ".budget"):
                 single[words[0]] = number(words[1]) if words[1:] else True
             elif words[0] == ".need":
                 needs.add(words[1])
@@ -99,10 +102,15 @@ def assemble(lines):
                 places.append(place)
         except (ValueError, KeyError, IndexError) as error:
             raise TextFault(place) from error
+    version = single.get(".version", 1)
+    code = paired(with_line(version, words, labels, place) for words, place in zip(code, places))
+    if (breach := first_breach(code)) is not None:
+        raise TextFault(places[breach])
     return Image(
-        raw=".raw" in single, memory=single.get(".memory", 0), budget=single.get(".budget", 1),
+        version=version, raw=".raw" in single, memory=single.get(".memory", 0),
+        budget=single.get(".budget", 1),
         needs=tuple(need for need in NEEDS if need in needs), starts=tuple(starts), slots=tuple(slots),
-        code=tuple(with_line(words, labels, place) for words, place in zip(code, places)),
+        code=code,
     ), places
 
 
@@ -111,9 +119,9 @@ def assembled(text):
     return encode(assemble([*enumerate(text.split("\n"), 1)])[0])
 
 
-def with_line(words, labels, place):
+def with_line(version, words, labels, place):
     """The instruction, or a TextFault with its line."""
     try:
-        return instruction(words, labels)
+        return instruction(version, words, labels)
     except (ValueError, KeyError, IndexError) as error:
         raise TextFault(place) from error

@@ -6,7 +6,8 @@ rest of the program is shown too; the first refusal is the answer.
 from dataclasses import dataclass, field, replace
 
 from meaning.numbers import NEEDS
-from meaning.rules import Refused, edges
+from meaning.rules import Refused, edges, target_of
+from meaning.steps import steps_of
 from meaning.values import bounds_of, join, start_state
 
 # What says nothing of registers: a line that is missing, and too little memory.
@@ -54,7 +55,7 @@ class Search:
         self.amended = replace(image, needs=tuple(NEEDS), memory=1 << 70)
         length = len(image.code)
         # where a block begins: at the start, and wherever an instruction may jump
-        self.blocks = {one.target for one in image.code if one.row and one.row.is_jump and one.target < length} | {0}
+        self.blocks = {target for one in image.code if (target := target_of(one)) is not None and target < length} | {0}
         self.found = Found(image, self.blocks)
         self.known = {0: start_state(image)}
         self.waiting = {0}
@@ -108,27 +109,6 @@ class Search:
             self.waiting.discard(place)
             self.run(place)
         return self.found
-
-
-def steps_of(image, leads):
-    """How many instructions may follow one another from each one on, before a wait or an exit; nothing
-    where there is no end of them."""
-    after = {place: [] if image.code[place].is_pause else targets for place, targets in leads.items()}
-    before = {}
-    for place, targets in after.items():
-        for target in targets:
-            before.setdefault(target, []).append(place)
-    left = {place: len(targets) for place, targets in after.items()}
-    ready = [place for place, count in left.items() if count == 0]
-    steps = {}
-    while ready:
-        place = ready.pop()
-        steps[place] = max((steps[target] + 1 for target in after[place]), default=0)
-        for one in before.get(place, ()):
-            left[one] -= 1
-            if left[one] == 0:
-                ready.append(one)
-    return steps
 
 
 def verify(image):

@@ -2,6 +2,7 @@
 from collections import deque
 
 from meaning.rules import Refused, edges
+from meaning.steps import Longest
 from meaning.values import bounds_of, join, start_state
 
 MOST_STATES = 20000
@@ -77,15 +78,5 @@ def shortest_way(found, at):
 
 
 def counted_way(found, first):
-    """The instructions that follow one another for the longest from this one on, and the one that comes
-    again if it goes round."""
-    places, place = [], first
-    while not found.image.code[place].is_pause:
-        if place in places:
-            return places, place
-        places.append(place)
-        after = found.leads.get(place, [])
-        if not after:
-            break
-        place = max(after, key=lambda one: found.steps.get(one, 1 << 30))
-    return places, None
+    """The longest way from an instruction on, and the place that comes again if it has no end."""
+    return Longest(found.image, found.leads).way(first)

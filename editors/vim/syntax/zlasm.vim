@@ -14,7 +14,7 @@ syntax match zlasmRegister /\<r\%(\d\|[12]\d\|3[01]\)\>/
 syntax match zlasmError /\<r\%(0\d\+\|3[2-9]\|[4-9]\d\|\d\{3,}\)\>/
 
 " Directives, with the words that stand behind them.
-syntax match zlasmDirective /\%(^ *\)\@<=\.\%(raw\|memory\|budget\)\>/
+syntax match zlasmDirective /\%(^ *\)\@<=\.\%(version\|raw\|memory\|budget\)\>/
 syntax match zlasmDirective /\%(^ *\)\@<=\.need\>/ nextgroup=zlasmCondition skipwhite
 syntax match zlasmDirective /\%(^ *\)\@<=\.\%(start\|slots\)\>/ nextgroup=zlasmKind skipwhite
 syntax match zlasmDirective /\%(^ *\)\@<=\.bytes\>/ nextgroup=zlasmBytes skipwhite
@@ -23,7 +23,8 @@ syntax match zlasmKind /\<\%(process\|channel\|event\|port\|eventpair\|job\|any\
 syntax match zlasmBytes /\<\x\{32}\>/ contained
 
 " Local instructions and calls.
-syntax match zlasmLocal /\%(^ *\)\@<=\%(const\|mov\|addi\|add\|sub\|and\|or\|xor\|shl\|shr\|take\|swap\|ld8\|ld64\|st8\|st64\) \@=/
+syntax match zlasmLocal /\%(^ *\)\@<=\%(const\|mov\|addi\|add\|sub\|and\|or\|xor\|shl\|shr\|take\|swap\|ld8\|ld64\|st8\|st64\|rep\) \@=/
+syntax match zlasmLocal /\%(^ *\)\@<=\%(endrep\)\%( *\%(;.*\)\=$\)\@=/
 syntax match zlasmCall /\%(^ *\)\@<=\%(close\|dup\|replace\|chan_create\|chan_write\|chan_read_etc\|event_create\|signal\|signal_peer\|wait_one\|wait_poll\|wait_async\|port_create\|port_queue\|port_wait\|port_poll\|port_cancel\|process_create\|process_start\|process_exit\|task_kill\|job_create\|job_set_policy\|eventpair_create\) \@=/
 
 " A jump, whose last word may be a label that looks like a register.

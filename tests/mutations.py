@@ -3,6 +3,7 @@ import re
 from dataclasses import dataclass, field
 from pathlib import Path
 
+from meaning.image import MAGIC, VERSIONS
 from meaning.instructions import BY_OPCODE
 from meaning.scenario import is_scenario, without_turns
 from meaning.texts import TextFault, assembled
@@ -113,9 +114,21 @@ def changed_instruction(chance, image, at):
     elif row and row.ending == "l":
         image[at + chance.randrange(8, 16)] = chance.choice((0, 2, 3, 31, 32, 255, 255))
     else:
-        place = at + (12 if row and row.is_jump and chance.random() < 0.5 else 8)
+        place = at + (12 if row and row.has_target and chance.random() < 0.5 else 8)
         small = chance.randrange(max(len(image) // INSTRUCTION, 1))
         image[place:place + 4] = (chance.choice((*NUMBERS, small, small, small)) % 2**32).to_bytes(4, "little")
+
+
+def pair_blocks(image):
+    """Lets each rep and its endrep lead to each other, where they nest."""
+    begin, reps = HEADER + DECLARATION * (image[17] + image[18]), []
+    for at in range(begin, len(image) - INSTRUCTION + 1, INSTRUCTION):
+        row = BY_OPCODE.get(image[at])
+        if row and row.name == "rep":
+            reps.append(at)
+        elif row and row.name == "endrep" and reps:
+            for one, other in [(at, reps[-1]), (reps.pop(), at)]:
+                image[one + 12:one + 16] = ((other - begin) // INSTRUCTION).to_bytes(4, "little")
 
 
 def changed_image(chance, found):
@@ -141,9 +154,11 @@ def changed_image(chance, found):
         elif len(image) >= at + INSTRUCTION:
             changed_instruction(chance, image, at)
     if chance.random() < 0.8 and len(image) >= HEADER:
-        image[:5] = b"ZLAB\1"
+        image[:5] = MAGIC + bytes([chance.choice(VERSIONS)])
         count = max(len(image) - HEADER - DECLARATION * (image[17] + image[18]), 0) // INSTRUCTION
         image[6:8] = (count % 2**16).to_bytes(2, "little")
+        if chance.random() < 0.5:
+            pair_blocks(image)
     return bytes(image)
 
 

@@ -1,7 +1,8 @@
 -- The bytes of an instruction in range are to blocks what it is, and jump where it does.
-use Rattle.zl_code.proofs.Common.{Bool, CallInstr, CallName, Instr, List, LocalInstr, None, Option, Some, [], and_parts, ap, call_bytes, call_row, cond, eqb-true}
-use Rattle.zl_code.proofs.Common.{false, if◌then◌else◌, instr_bytes, is_call_in_range, is_instr_in_range, is_local_in_range, is_some, layout_of, length, list_all}
-use Rattle.zl_code.proofs.Common.{local_bytes, local_parts, map, nat_lt, not, number_at, refl, row_of, slice_index, sym, true, ℕ, ◌&&◌, ◌==◌, ◌||◌, ◌∙◌, ◌∷◌, ◌≡◌}
+use Rattle.zl_code.proofs.Common.{Bool, CallInstr, CallName, Instr, List, LocalInstr, None, Option, Some, [], and_parts, ap, arith, call_bytes, call_row}
+use Rattle.zl_code.proofs.Common.{eqb-true, false, if◌then◌else◌, instr_bytes, is_instr_in_range, is_local_in_range, is_some}
+use Rattle.zl_code.proofs.Common.{layout_of, list_all, local_bytes, local_parts, ltb-true, map, nat_lt, ne_eqb, not, number_at, refl, row_of}
+use Rattle.zl_code.proofs.Common.{slice_index, true, ℕ, ◌<◌, ◌==◌, ◌||◌, ◌∙◌, ◌∷◌, ◌≡◌}
 use Rattle.std.specs.List.{list_any}
 use Rattle.zl_code.specs.Blocks.{are_blocks, mark_of, marks_of}
 use Rattle.zl_code.specs.Instructions.{Layout, is_known, is_new, layout_at}
@@ -76,13 +77,22 @@ blocks_known : list_all (λ k. is_some (layout_of k)) (26 ∷ 27 ∷ []) ≡ tru
 unfolding row_of
 blocks_known = refl
 
+-- an opcode above 87 is none of these, which are below
+none_above : (n : ℕ) (ks : List ℕ) → list_all (λ k. nat_lt k 88) ks ≡ true → 87 < n → list_any (λ k. n == k) ks ≡ false
+none_above n [] all above = refl
+none_above n (k ∷ ks) all above =
+    let p = and_parts (nat_lt k 88) (list_all (λ k. nat_lt k 88) ks) all in
+    let below = ltb-true k 88 p.0 in
+    rw (ne_eqb n k (λ e. omega (arith, below, above, e)), none_above n ks p.1 above) refl
+
 no_jump_new : (n : ℕ) → is_new n ≡ true → list_any (λ k. n == k) jumps ≡ false
-no_jump_new n h = by (n == 26) refl (n == 27) refl h
+no_jump_new n h = by (n == 26) refl (n == 27) refl (nat_lt 87 n) refl h
   where
-    by : (p : Bool) → (n == 26) ≡ p → (q : Bool) → (n == 27) ≡ q → (p || q) ≡ true → list_any (λ k. n == k) jumps ≡ false
-    by true e q f h = rw (eqb-true n 26 e) refl
-    by false e true f h = rw (eqb-true n 27 f) refl
-    by false e false f h = cc
+    by : (p : Bool) → (n == 26) ≡ p → (q : Bool) → (n == 27) ≡ q → (r : Bool) → nat_lt 87 n ≡ r → (p || (q || r)) ≡ true → list_any (λ k. n == k) jumps ≡ false
+    by true e q f r g h = rw (eqb-true n 26 e) refl
+    by false e true f r g h = rw (eqb-true n 27 f) refl
+    by false e false f true g h = none_above n jumps refl (ltb-true 87 n g)
+    by false e false f false g h = cc
 
 unknown_jump : (v : Version) (n : ℕ) → layout_at v n ≡ None → list_any (λ k. n == k) jumps ≡ false
 unknown_jump version.Two n none = none_of n jumps jumps_known none
@@ -94,7 +104,8 @@ unknown_jump version.One n none = by (is_new n) refl none
 
 pub unknown_mark : (v : Version) (bytes : List ℕ) → layout_at v (slice_index bytes 0) ≡ None → mark_in v bytes ≡ mark.Plain
 unknown_mark version.One bytes none = refl
-unknown_mark version.Two bytes none = by (slice_index bytes 0 == 26) (slice_index bytes 0 == 27) (none_of (slice_index bytes 0) (26 ∷ 27 ∷ []) blocks_known none)
+unknown_mark version.Two bytes none =
+    by (slice_index bytes 0 == 26) (slice_index bytes 0 == 27) (none_of (slice_index bytes 0) (26 ∷ 27 ∷ []) blocks_known none)
   where
     by : (p q : Bool) → (p || (q || false)) ≡ false
         → (if p then mark.Rep (number_at bytes 8 4) (number_at bytes 12 4) else if q then mark.EndRep (number_at bytes 12 4) else mark.Plain) ≡ mark.Plain

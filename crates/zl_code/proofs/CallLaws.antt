@@ -1,16 +1,17 @@
 -- What each call says where it isn't refused: its new handles have room, and it is made of these changes.
-use Rattle.zl_code.proofs.Common.{All, All-filter, Body, Entry, EventBody, HasPeer, IsSound, IsTrue, Kind, Library, List, Map, None, Object, PortBody, Process}
-use Rattle.zl_code.proofs.Common.{Ready, Request, Some, StandsBelow, WAIT, WRITE, World, [], and_from, ap, arith, body_of, cases_Bool, chan_create}
-use Rattle.zl_code.proofs.Common.{chan_read_etc, chan_write, choosing, copy_of, drop, dup, effect, entries_at, entry_at, eq-eqb, eqb-true, event_create}
-use Rattle.zl_code.proofs.Common.{eventpair_create, examined, false, false≢true, filter, filter_passes, first_bytes, first_handles, first_some, get, gets_all}
-use Rattle.zl_code.proofs.Common.{handle_operands, handles_to, has_koids, has_room, inl, inr, insert_all, is_by_handle, is_dead, is_empty, is_port_there}
-use Rattle.zl_code.proofs.Common.{is_some, job_create, job_set_policy, job_within, kind_of, koid_in, leb-true, length, listed, may_choose, may_get, may_get_all}
-use Rattle.zl_code.proofs.Common.{message_read, nat_le, new_entry, new_handles, not, not-false, not-true, object_at, object_changed, on_object, on_process}
-use Rattle.zl_code.proofs.Common.{operand, operand_of, or_parts, peer_at, policy_changed, port_cancel, port_create, port_poll, port_queue, port_wait}
-use Rattle.zl_code.proofs.Common.{process_create, process_start, queue_at, queue_of, receiver_of, refl, refusal, registered, remove_all, replace, row_of, runs}
-use Rattle.zl_code.proofs.Common.{same_Some, setting_of, signal, signal_peer, source_at, storing, subst, sym, taken_handles, takes, task_kill, true, true≢false}
-use Rattle.zl_code.proofs.Common.{user_packet, wait_async, wait_of, with_effect, with_killed, with_object, without, without_keyed, without_waits, ℕ, ◌++◌, ◌+◌}
-use Rattle.zl_code.proofs.Common.{◌<◌, ◌==◌, ◌^◌, ◌∙◌, ◌∷◌, ◌≡◌, ◌≤◌}
+use Rattle.zl_code.proofs.Common.{All, All-filter, Body, Entry, EventBody, HasPeer, IsSound, IsTrue, Kind, Library, List, Map, None, Object, Option}
+use Rattle.zl_code.proofs.Common.{PortBody, Process, Ready, Request, Some, StandsBelow, WAIT, WRITE, World, [], and_from, ap, arith, body_of, cases_Bool}
+use Rattle.zl_code.proofs.Common.{chan_create, chan_read_etc, chan_read_slots, chan_write, chan_write_slots, choosing, copy_of, drop, dup, effect}
+use Rattle.zl_code.proofs.Common.{entries_at, entry_at, eq-eqb, eqb-true, event_create, eventpair_create, examined, false, false≢true, filter}
+use Rattle.zl_code.proofs.Common.{filter_passes, first_bytes, first_handles, first_some, get, gets_all, handle_operands, handles_to, has_koids, has_room}
+use Rattle.zl_code.proofs.Common.{inl, inr, insert_all, is_by_handle, is_dead, is_empty, is_port_there, is_some, job_create, job_set_policy, job_within}
+use Rattle.zl_code.proofs.Common.{keeping, kind_of, koid_in, leb-true, length, listed, may_choose, may_get, may_get_all, message_read, nat_le, new_entry}
+use Rattle.zl_code.proofs.Common.{new_handles, not, not-false, not-true, object_at, object_changed, on_object, on_process, operand, operand_of, or_parts}
+use Rattle.zl_code.proofs.Common.{peer_at, policy_changed, port_cancel, port_create, port_poll, port_queue, port_wait, process_create, process_start}
+use Rattle.zl_code.proofs.Common.{queue_at, queue_of, receiver_of, refl, refusal, registered, remove_all, replace, row_of, runs, same_Some, setting_of}
+use Rattle.zl_code.proofs.Common.{signal, signal_peer, slots_filled, source_at, storing, subst, sym, taken_handles, takes, task_kill, true, true≢false}
+use Rattle.zl_code.proofs.Common.{user_packet, wait_async, wait_of, with_effect, with_killed, with_object, without, without_keyed, without_waits, ℕ, ◌++◌}
+use Rattle.zl_code.proofs.Common.{◌+◌, ◌<◌, ◌==◌, ◌^◌, ◌∙◌, ◌∷◌, ◌≡◌, ◌≤◌}
 use Rattle.zl_rights.specs.declared.kind.Kind.TheVariants as kind
 use Rattle.zl_rights.specs.declared.status.Status.TheVariants as status
 use Rattle.zl_rights.specs.Packets.{is_from}
@@ -97,16 +98,23 @@ module _ (lib : Library) (w : World) (p : ℕ) (q : Process) (there : get w.proc
         one w v _ (process_changes w v p (λ x. record x { cpu = record x.cpu { memory = overwritten x.cpu.memory address (b ∷ bytes) } })
         (λ x at. changed x _ refl refl (computes _ refl)) (λ x. refl))
 
-    -- the first message at the end k is read: its handles enter, and its bytes are stored
-    received : MayTake w u.waits p after → (k address : ℕ) (es : List Entry) (bytes vs : List ℕ) → HaveRoom after es
+    -- the values are kept
+    keep : (v : World) (kept : Option (ℕ × List ℕ)) → Changes w v (keeping v p kept)
+    keep v None = stays v
+    keep v (Some x) =
+        one w v _ (process_changes w v p (λ y. record y { cpu = record y.cpu { slots = slots_filled y.cpu.slots (Some x) } })
+        (λ y at. changed y _ refl refl (computes _ refl)) (λ y. refl))
+
+    -- the first message at the end k is read: its handles enter, its bytes are stored, and values may be kept
+    received : MayTake w u.waits p after → (k address : ℕ) (es : List Entry) (bytes vs : List ℕ) (kept : Option (ℕ × List ℕ)) → HaveRoom after es
         → IsTrue (gets_all (get u.processes p) es vs) → All (IsFine w (on_object u k message_read).objects) es
-        → Changes w u (storing (insert_all (on_object u k message_read) p es vs) p (address, bytes))
+        → Changes w u (keeping (storing (insert_all (on_object u k message_read) p es vs) p (address, bytes)) p kept)
     unfolding on_object
-    received may k address es bytes vs room gets fine =
+    received may k address es bytes vs kept room gets fine =
         changes u (on_object u k message_read) _ (object_changes w u k message_read (λ o at. message_goes refl))
         (join w (on_object u k message_read) (insert_all (on_object u k message_read) p es vs) _
         (enter (on_object u k message_read) refl may es vs (λ s. room) (chosen es vs gets) fine)
-        (store (insert_all (on_object u k message_read) p es vs) address bytes))
+        (join w (insert_all (on_object u k message_read) p es vs) _ _ (store _ address bytes) (keep _ kept)))
 
   -- the world without the handles that the call takes
   abbrev left_by : Request → World
@@ -206,7 +214,23 @@ module _ (lib : Library) (w : World) (p : ℕ) (q : Process) (there : get w.proc
       record {
         room = λ e. enough;
         changes = λ vs gets. received u after left (may_take (taken_handles (chan_read_etc c address room places)) refl after left) (object_at w p c) address _
-            (first_bytes (queue_at w p c)) vs enough gets (received_are_fine w u p c left.objects);
+            (first_bytes (queue_at w p c)) vs None enough gets (received_are_fine w u p c left.objects);
+      }
+  laws (chan_write_slots c bytes hs) after left passes =
+      let u = left_by (chan_write_slots c bytes hs) in
+      record {
+        room = λ e. omega arith;
+        changes = λ vs gets. one w u _ (object_changes w u (peer_at w p c) _
+            (λ o at. message_comes (record { bytes = bytes; handles = entries_at w p hs }) refl (may_be_sent w u p (peer_at w p c) bytes hs left.objects)));
+      }
+  laws (chan_read_slots c address room array places) after left passes =
+      let r = chan_read_slots c address room array places in
+      let some_room = not-false _ (test_fails _ status.NoResources (listed_none lib w p r passes).1.1.1.0) in
+      let enough = room_for (left_by r) after left (length (first_handles (queue_at w p c))) (first_handles (queue_at w p c)) some_room (omega arith) in
+      record {
+        room = λ e. enough;
+        changes = λ vs gets. received (left_by r) after left (may_take (taken_handles r) refl after left) (object_at w p c) address _
+            (first_bytes (queue_at w p c)) vs (Some (array, vs)) enough gets (received_are_fine w (left_by r) p c left.objects);
       }
   laws event_create after left passes =
       let u = left_by event_create in

@@ -28,25 +28,26 @@ pub use Rattle.std.specs.Prelude.{IsSomeAnd, MatchOption, bit_or, bit_xor, negsu
 pub use Rattle.zl_code.specs.Boot.{IsBooted, MOST_GRANTS, MOST_KOIDS, MOST_PROCESSES, all_known, are_declared, are_misfits}
 pub use Rattle.zl_code.specs.Boot.{gives_no_handle, handle_given, handles_given, is_job, lacks_koids, may_start_with, process_with_all, setting}
 pub use Rattle.zl_code.specs.Boot.{started_process, values_given}
-pub use Rattle.zl_code.specs.CallTable.{awaited_by, choosing, ends_caller, entering_at, job_create, job_set_policy, outcome_of, port_cancel, port_create}
-pub use Rattle.zl_code.specs.CallTable.{port_poll, port_queue, port_wait, process_create, process_start, receiver_of, signal_peer, stored_by, task_kill}
-pub use Rattle.zl_code.specs.CallTable.{wait_async, wait_one, wait_poll}
+pub use Rattle.zl_code.specs.CallTable.{awaited_by, choosing, ends_caller, entering_at, job_create, job_set_policy, kept_by, outcome_of, port_cancel}
+pub use Rattle.zl_code.specs.CallTable.{port_create, port_poll, port_queue, port_wait, process_create, process_start, receiver_of, signal_peer, stored_by}
+pub use Rattle.zl_code.specs.CallTable.{task_kill, wait_async, wait_one, wait_poll}
 pub use Rattle.zl_code.specs.Calls.{CallBy, after_ok, after_refusal, may_want}
 pub use Rattle.zl_code.specs.Common.{Acts, AtCall, Boots, Calls, Choice, FirstFault, HandlesAreNamed, HandlesAreSound, HasGivenKoids, Image, IsBoot}
-pub use Rattle.zl_code.specs.Common.{IsLegalHistory, IsSound, IsStuck, Layout, Library, MOST_ITEMS, Moves, Next, Program, Reading, Refused, Request, Row, Site}
-pub use Rattle.zl_code.specs.Common.{Spells, Step, Values, Wants, answer_if, any, are_needs, are_registers, at_limit, at_statement, body_in, body_of}
-pub use Rattle.zl_code.specs.Common.{by_look_up, bytes_of, call_name, call_row, calls_at, chan_create, chan_read_etc, chan_write, close, copy_of, cpu_answered}
-pub use Rattle.zl_code.specs.Common.{dup, entry_at, event_create, eventpair_create, first_some, grows, has_default_rights, in_order, instr_bytes, is_among}
-pub use Rattle.zl_code.specs.Common.{is_in_range, is_instr_in_range, is_job_body, is_slot_in_range, is_start_in_range, layout_of, may_boot, may_get}
-pub use Rattle.zl_code.specs.Common.{names_its_object, needs_byte, needs_named, needs_value, next_for, number_at, number_of, object_at, ok_outcome, operand_of}
-pub use Rattle.zl_code.specs.Common.{origin, pid_of, process_exit, process_with, process_without, raisable, reading_of, replace, row_bytes, seven, signal}
-pub use Rattle.zl_code.specs.Common.{single, site, slot_bytes, spelling, start_bytes, table_of, taken, with_effect, with_rights}
+pub use Rattle.zl_code.specs.Common.{IsLegalHistory, IsSound, IsStuck, Layout, Library, MOST_ITEMS, Moves, Next, Program, Reading, Refused, Request, Row}
+pub use Rattle.zl_code.specs.Common.{Site, Spells, Step, Values, Wants, answer_if, any, are_needs, are_registers, at_limit, at_statement, body_in, body_of}
+pub use Rattle.zl_code.specs.Common.{by_look_up, bytes_of, call_name, call_row, calls_at, chan_create, chan_read_etc, chan_read_slots, chan_write}
+pub use Rattle.zl_code.specs.Common.{chan_write_slots, close, copy_of, cpu_answered, dup, entry_at, event_create, eventpair_create, first_some, grows}
+pub use Rattle.zl_code.specs.Common.{has_default_rights, in_order, instr_bytes, is_among, is_in_range, is_instr_in_range, is_job_body, is_slot_in_range}
+pub use Rattle.zl_code.specs.Common.{is_start_in_range, layout_of, may_boot, may_get, names_its_object, needs_byte, needs_named, needs_value, next_for}
+pub use Rattle.zl_code.specs.Common.{number_at, number_of, object_at, ok_outcome, operand_of, origin, pid_of, process_exit, process_with, process_without}
+pub use Rattle.zl_code.specs.Common.{raisable, reading_of, replace, row_bytes, seven, signal, single, site, slot_bytes, spelling, start_bytes, table_of}
+pub use Rattle.zl_code.specs.Common.{taken, with_effect, with_rights}
 unfoldable pub use Rattle.zl_code.specs.Common.{boot_effect, boot_fault, effect, ended, examined, first_fault, gives_ok, gives_refused, handle_operands}
 unfoldable pub use Rattle.zl_code.specs.Common.{handles_to, has_koids, has_room, header_fault, insert_all, instr_fault, listed, local_effect, local_parts}
 unfoldable pub use Rattle.zl_code.specs.Common.{may_choose, new_handles, on_process, operand, pieces, refusal, remove_all, replied, row_named, row_of, site_of}
 unfoldable pub use Rattle.zl_code.specs.Common.{slot_fault, start_fault, taken_handles, with_object}
 pub use Rattle.zl_code.specs.Effects.{body_after_read, body_with_message, gets_all, may_get_after, may_get_all, message_read, message_sent, new_entry}
-pub use Rattle.zl_code.specs.Effects.{object_changed, process_ended, storing, waiting, with_process, without_waits}
+pub use Rattle.zl_code.specs.Effects.{keeping, object_changed, process_ended, slots_filled, storing, waiting, with_process, without_waits}
 unfoldable pub use Rattle.zl_code.specs.Effects.{on_object}
 pub use Rattle.zl_code.specs.Headline.{EndsItself, GoesWell, HasNoFault, IsNotStuck, IsSizedBoot, KeepsBudget, MayEnd, executed, is_fault, left_behind}
 pub use Rattle.zl_code.specs.Instructions.{Field, calls, closes, consumes, ends, field_of, layout, layout_in, names, row_among, row_value, rows}

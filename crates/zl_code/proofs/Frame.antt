@@ -1,18 +1,19 @@
 -- The step of a process leaves the others alone unless it starts, wakes, kills or drops them, keeps what their tables name, and changes no policy of theirs.
-use Rattle.zl_code.proofs.Common.{Acts, AtCall, Awaited, Blocked, Body, Bool, CallBy, ChannelEnd, Choice, Created, Ended, Entry, Gone, HasItsObject, IsSound}
-use Rattle.zl_code.proofs.Common.{IsStuck, IsTrue, JobBody, KILLED, Library, List, LivesAt, Moves, Next, None, Object, Option, Outcome, Packet, PacketAt}
-use Rattle.zl_code.proofs.Common.{PortBody, Process, ProcessBody, Ready, Refused, Request, Settles, SignalOf, Site, Some, StandsBelow, State, Step, TraceItem}
-use Rattle.zl_code.proofs.Common.{Values, Wants, World, [], active, after_ok, after_refusal, and_from, and_parts, answered, ap, arith, awaited_by}
-use Rattle.zl_code.proofs.Common.{body_after_read, body_in, body_killed, body_with_message, cases_Bool, close, created_process, effect, ended, entering_at}
-use Rattle.zl_code.proofs.Common.{entry_at, eq-eqb, eqb-true, false, false≢true, fired, fold, get, get-each, get-put, get-update, get-where_key-in}
-use Rattle.zl_code.proofs.Common.{get-where_key-out, handle_operands, has_child, has_child_job, has_child_process, if◌then◌else◌, inl, inr, insert_all}
-use Rattle.zl_code.proofs.Common.{is_job_below, is_process, is_process_of, is_some, is_within, lives, made_ready, may_choose, may_get, may_get_all, meets}
-use Rattle.zl_code.proofs.Common.{ne_eqb, new_handles, next_for, none-some, not, not-true, object_at, ok_outcome, on_object, on_process, option_map}
-use Rattle.zl_code.proofs.Common.{option_to_list, or_left, or_right, packet_values, parent_in, process_create, process_ended, process_killed, process_settled}
-use Rattle.zl_code.proofs.Common.{process_start, process_with, process_without, receiver_of, refl, refusal, remove_all, replied, row_of, runs, same_Some}
-use Rattle.zl_code.proofs.Common.{started_with, state_without, stored_by, storing, subst, sym, taken, taken_handles, task_kill, true, true≢false, update}
-use Rattle.zl_code.proofs.Common.{waiting, wakes, where_key, with_body, with_effect, with_killed, with_object, without_others, woken, woken_at_port, woken_by}
-use Rattle.zl_code.proofs.Common.{woken_by_first, woken_from, woken_if_there, ℕ, ◌<◌, ◌==◌, ◌∙◌, ◌∷◌, ◌≡◌, ◌≤◌, ◌⊎◌}
+use Rattle.zl_code.proofs.Common.{Acts, AtCall, Awaited, Blocked, Body, Bool, CallBy, ChannelEnd, Choice, Created, Ended, Entry, Gone, HasItsObject}
+use Rattle.zl_code.proofs.Common.{IsSound, IsStuck, IsTrue, JobBody, KILLED, Library, List, LivesAt, Moves, Next, None, Object, Option, Outcome, Packet}
+use Rattle.zl_code.proofs.Common.{PacketAt, PortBody, Process, ProcessBody, Ready, Refused, Request, Settles, SignalOf, Site, Some, StandsBelow, State}
+use Rattle.zl_code.proofs.Common.{Step, TraceItem, Values, Wants, World, [], active, after_ok, after_refusal, and_from, and_parts, answered, ap, arith}
+use Rattle.zl_code.proofs.Common.{awaited_by, body_after_read, body_in, body_killed, body_with_message, cases_Bool, close, created_process, effect, ended}
+use Rattle.zl_code.proofs.Common.{entering_at, entry_at, eq-eqb, eqb-true, false, false≢true, fired, fold, get, get-each, get-put, get-update}
+use Rattle.zl_code.proofs.Common.{get-where_key-in, get-where_key-out, handle_operands, has_child, has_child_job, has_child_process, if◌then◌else◌, inl}
+use Rattle.zl_code.proofs.Common.{inr, insert_all, is_job_below, is_process, is_process_of, is_some, is_within, keeping, kept_by, lives, made_ready}
+use Rattle.zl_code.proofs.Common.{may_choose, may_get, may_get_all, meets, ne_eqb, new_handles, next_for, none-some, not, not-true, object_at, ok_outcome}
+use Rattle.zl_code.proofs.Common.{on_object, on_process, option_map, option_to_list, or_left, or_right, packet_values, parent_in, process_create}
+use Rattle.zl_code.proofs.Common.{process_ended, process_killed, process_settled, process_start, process_with, process_without, receiver_of, refl, refusal}
+use Rattle.zl_code.proofs.Common.{remove_all, replied, row_of, runs, same_Some, started_with, state_without, stored_by, storing, subst, sym, taken}
+use Rattle.zl_code.proofs.Common.{taken_handles, task_kill, true, true≢false, update, waiting, wakes, where_key, with_body, with_effect, with_killed}
+use Rattle.zl_code.proofs.Common.{with_object, without_others, woken, woken_at_port, woken_by, woken_by_first, woken_from, woken_if_there, ℕ, ◌<◌, ◌==◌}
+use Rattle.zl_code.proofs.Common.{◌∙◌, ◌∷◌, ◌≡◌, ◌≤◌, ◌⊎◌}
 use Rattle.zl_code.specs.declared.history.Outcome.TheVariants as outcome
 use Rattle.zl_code.specs.Frame.{OthersMake, left_alone, woken as is_woken, was_started, was_killed, dropped, LeavesOthers, HasLiving, IsWithin, itself, below}
 use Rattle.zl_code.specs.Frame.{policy_of}
@@ -57,6 +58,10 @@ module _ (p q : ℕ) (apart : (p == q) ≡ false) where
   pub stored_other : (at : ℕ × List ℕ) (w : World) → Same (storing w p at) w
   stored_other (address, []) w = refl
   stored_other (address, b ∷ bytes) w = on_other w _
+
+  pub kept_other : (kept : Option (ℕ × List ℕ)) (w : World) → Same (keeping w p kept) w
+  kept_other None w = refl
+  kept_other (Some x) w = on_other w _
 
   pub waiting_other : (w : World) (ds : List ℕ) (awaited : Option Awaited) → Same (waiting w p ds awaited) w
   waiting_other w ds None = refl
@@ -268,11 +273,12 @@ module _ (p q : ℕ) (apart : (p == q) ≡ false) (lib : Library) (w : World) (x
   spared_done : (r : Request) (vs : List ℕ) → spares p q apart w r ≡ true
       → get (with_effect lib w (remove_all w p (taken_handles r)) p r vs).processes q ≡ get w.processes q
   spared_done r vs free =
-      stored_other p q apart (stored_by w p r) _
+      kept_other p q apart (kept_by r vs) _
+      ∙ (stored_other p q apart (stored_by w p r) _
       ∙ (enter_other (receiver_of w p r) q (receiver_other p q apart w r free) (effect lib w (remove_all w p (taken_handles r)) p r vs) (new_handles w p r)
       (entering_at r vs)
       ∙ (effect_other p q apart lib w (remove_all w p (taken_handles r)) r vs old (same_objects w (taken_handles r)) free
-      ∙ left_other p q apart (taken_handles r) w))
+      ∙ left_other p q apart (taken_handles r) w)))
     where
       same_objects : (u : World) (hs : List ℕ) → (remove_all u p hs).objects ≡ u.objects
       same_objects u hs = objects_left p u hs

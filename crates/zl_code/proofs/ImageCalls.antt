@@ -1,7 +1,7 @@
 -- A system call: its 16 bytes have no fault, and it is read from them again.
 use Rattle.zl_code.proofs.Common.{Bool, CallInstr, CallName, IfSome, List, None, Reading, Some, [], and_from, and_parts, ap, are_registers, arith, bytes_of}
 use Rattle.zl_code.proofs.Common.{call_bytes, call_reading, call_row, calls, drop, drop-append-add, drop-append_seam, eq-eqb, eqb-true, false, fault_by}
-use Rattle.zl_code.proofs.Common.{if◌then◌else◌, instr_fault, is_call_in_range, is_unused_zero, layout_in, layout_of, length, length-append, length-drop}
+use Rattle.zl_code.proofs.Common.{if◌then◌else◌, is_call_in_range, is_unused_zero, layout_in, layout_of, length, length-append, length-drop}
 use Rattle.zl_code.proofs.Common.{list_all, names_registers, nat_lt, number_of, option_map, reading_of, refl, registers_at, row_bytes, row_of, slice_index}
 use Rattle.zl_code.proofs.Common.{subst, sym, take, take-append_seam, take_all, true, ℕ, ◌++◌, ◌+◌, ◌==◌, ◌∙◌, ◌∷◌, ◌≡◌}
 use Rattle.zl_code.proofs.ImageBytes.{IsBytes, bytes_of-number_at, parts_at, list_all-from_IsBytes}

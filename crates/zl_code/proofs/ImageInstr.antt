@@ -1,7 +1,7 @@
 -- The 16 bytes of an instruction and what is read of them.
 use Rattle.zl_code.proofs.Common.{Bool, DecodeFault, IfSome, Layout, List, None, Option, Reading, Some, [], and_from, and_parts, ap, are_registers, arith}
 use Rattle.zl_code.proofs.Common.{bytes_of, drop, ending_bytes, eq-eqb, eqb, eqb-true, false, fault_by, first_some, instr_fault, is_ending_clear}
-use Rattle.zl_code.proofs.Common.{is_instr_in_range, is_unused_zero, layout_of, length, length-drop, length-take, list_all, names_registers, not, number_at}
+use Rattle.zl_code.proofs.Common.{is_instr_in_range, is_unused_zero, length, length-drop, length-take, list_all, names_registers, not, number_at}
 use Rattle.zl_code.proofs.Common.{reading_of, refl, registers_at, replicate, row_bytes, seven, slice_index, subst, suc, sym, take, take_all, then_some, true}
 use Rattle.zl_code.proofs.Common.{zero, ℕ, ◌++◌, ◌==◌, ◌∙◌, ◌∷◌, ◌≡◌, ◌≤◌}
 use Rattle.zl_code.specs.Instructions.{layout_at}
@@ -34,6 +34,8 @@ ending_clear ending.Nothing r same h =
     sym (λ i. bytes_of 4 (eqb-true r.imm 0 p.0 i) ++ bytes_of 4 (eqb-true r.target 0 p.1 i)) ∙ same
 ending_clear ending.Number r same h = sym (ap (λ (n : ℕ). bytes_of 4 r.imm ++ bytes_of 4 n) (eqb-true r.target 0 h)) ∙ same
 ending_clear ending.Room r same h = sym (ap (λ (n : ℕ). bytes_of 4 r.imm ++ bytes_of 4 n) (eqb-true r.target 0 h)) ∙ same
+ending_clear ending.FromSlots r same h = sym (ap (λ (n : ℕ). bytes_of 4 r.imm ++ bytes_of 4 n) (eqb-true r.target 0 h)) ∙ same
+ending_clear ending.IntoSlots r same h = sym (ap (λ (n : ℕ). bytes_of 4 r.imm ++ bytes_of 4 n) (eqb-true r.target 0 h)) ∙ same
 ending_clear ending.Target r same h = sym (ap (λ (n : ℕ). bytes_of 4 n ++ bytes_of 4 r.target) (eqb-true r.imm 0 h)) ∙ same
 ending_clear ending.Both r same h = same
 ending_clear ending.Handles r same h = refl
@@ -84,12 +86,14 @@ row_bytes-read bytes opcode l r spelled len fits first from unused e =
 
 -- ---- faults
 
-pub instr_fault-unknown : (v : Version) (raw : Bool) (bytes : List ℕ) → layout_at v (slice_index bytes 0) ≡ None → instr_fault v raw bytes ≡ then_some (not raw) faults.UnknownOp
+pub instr_fault-unknown : (v : Version) (raw : Bool) (bytes : List ℕ) → layout_at v (slice_index bytes 0) ≡ None
+    → instr_fault v raw bytes ≡ then_some (not raw) faults.UnknownOp
 unfolding instr_fault
 instr_fault-unknown v raw bytes h = ap (fault_by raw (reading_of bytes)) h
 
 -- registers that aren't there, in their fields or in the last eight bytes
-pub instr_fault-register : (v : Version) (raw : Bool) (bytes : List ℕ) (l : Layout) → layout_at v (slice_index bytes 0) ≡ Some l → are_registers (registers_at bytes) ≡ false
+pub instr_fault-register : (v : Version) (raw : Bool) (bytes : List ℕ) (l : Layout) → layout_at v (slice_index bytes 0) ≡ Some l
+    → are_registers (registers_at bytes) ≡ false
     → instr_fault v raw bytes ≡ Some faults.BadRegister
 unfolding instr_fault
 instr_fault-register v raw bytes l h bad = ap (fault_by raw (reading_of bytes)) h ∙ rw bad refl

@@ -1,6 +1,7 @@
 -- The ranges of an image, one by one, and of an image to which one thing is added.
 use Rattle.zl_code.proofs.Common.{Bool, Condition, Image, Instr, List, SlotArray, Start, [], and_from, and_parts, are_needs, arith, is_in_range}
-use Rattle.zl_code.proofs.Common.{is_instr_in_range, is_slot_in_range, is_start_in_range, le-leb, leb-true, length, length-append, list_all, lt-ltb, ltb-true, map}
+use Rattle.zl_code.proofs.Common.{is_instr_in_range, is_slot_in_range, is_start_in_range, le-leb, leb-true, length, length-append, list_all, lt-ltb}
+use Rattle.zl_code.proofs.Common.{ltb-true, map}
 use Rattle.zl_code.proofs.Common.{nat_le, nat_lt, refl, true, ℕ, ◌++◌, ◌<◌, ◌∷◌, ◌≡◌, ◌≤◌}
 use Rattle.zl_code.specs.declared.image.Version.{Version}
 use Rattle.zl_code.specs.declared.instr.Instr.TheVariants as instr
@@ -52,7 +53,8 @@ pub in_range_by : (i : Image) → Ranges i → is_in_range i ≡ true
 in_range_by i r =
     and_from _ _ (le-leb _ _ r.count) (and_from _ _ (le-leb _ _ r.memory) (and_from _ _ (lt-ltb _ _ r.least) (and_from _ _ (le-leb _ _ r.most)
     (and_from _ _ r.needs
-    (and_from _ _ (le-leb _ _ r.starts_count) (and_from _ _ (le-leb _ _ r.slots_count) (and_from _ _ r.starts (and_from _ _ r.slots (and_from _ _ r.code r.blocks)))))))))
+    (and_from _ _ (le-leb _ _ r.starts_count) (and_from _ _ (le-leb _ _ r.slots_count)
+    (and_from _ _ r.starts (and_from _ _ r.slots (and_from _ _ r.code r.blocks)))))))))
 
 -- ---- one thing more
 
@@ -81,7 +83,8 @@ module _ (v : Version) (raw : Bool) (memory budget : ℕ) (needs : List Conditio
   -- the mark, the declarations or the code may be others
   with_parts : (raw2 : Bool) (starts2 : List Start) (slots2 : List SlotArray) (code2 : List Instr)
       → length starts2 ≤ 7 → list_all is_start_in_range starts2 ≡ true → length slots2 ≤ 8 → list_all is_slot_in_range slots2 ≡ true
-      → length code2 ≤ 4096 → list_all (is_instr_in_range v raw2) code2 ≡ true → are_blocks (marks_of code2) (map jump_of code2) ≡ true → is_in_range (image v raw2 memory budget needs starts2 slots2 code2) ≡ true
+      → length code2 ≤ 4096 → list_all (is_instr_in_range v raw2) code2 ≡ true → are_blocks (marks_of code2) (map jump_of code2) ≡ true
+      → is_in_range (image v raw2 memory budget needs starts2 slots2 code2) ≡ true
   with_parts raw2 starts2 slots2 code2 few_starts starts_fit few_slots slots_fit short code_fits keeps =
       in_range_by (image v raw2 memory budget needs starts2 slots2 code2)
       (record {

@@ -142,7 +142,12 @@ call_fits : (raw : Bool) (i : CallInstr) → is_call_in_range i ≡ true → Fit
 unfolding read_known
 call_fits raw i h =
     let w = whole i h in
-    record { len = length_whole i w; there = rw (layout_is i.name) refl; fault = no_fault raw i w; again = rw (not_local i.name) (ap instr.Call (call_again i w)) }
+    record {
+      len = length_whole i w;
+      there = rw (layout_is i.name) refl;
+      fault = no_fault raw i w;
+      again = rw (not_local i.name) (ap instr.Call (call_again i w));
+    }
 
 not_some : (o : Option Layout) → not (is_some o) ≡ true → o ≡ None
 not_some None h = refl

@@ -1,5 +1,5 @@
 -- The bytes of a whole image.
-use Rattle.zl_code.proofs.Common.{Bool, DecodeFault, Err, IfOk, Image, List, MatchResult, None, Ok, Option, Result, Some, Spells, [], and_from, ap, append-nil}
+use Rattle.zl_code.proofs.Common.{Bool, DecodeFault, Err, IfOk, Image, List, MatchResult, None, Ok, Result, Some, Spells, [], and_from, ap, append-nil}
 use Rattle.zl_code.proofs.Common.{are_needs, arith, code_pieces, cond, count_at, drop, drop-drop, drop_all, eqb, false, first_fault, first_some, flat_map}
 use Rattle.zl_code.proofs.Common.{header, header_fault, inl, inr, instr_bytes, instr_fault, is_in_range, is_instr_in_range, is_raw_at, is_slot_in_range}
 use Rattle.zl_code.proofs.Common.{is_start_in_range, le-leb, length, length-append, length-map, list_all, lt-ltb, map, nat_le, nat_lt, needs_byte, number_at}

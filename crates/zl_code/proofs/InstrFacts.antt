@@ -1,7 +1,7 @@
 -- What holds of the 16 bytes of an instruction in range, and of 16 bytes without a fault.
 use Rattle.zl_code.proofs.Common.{Bool, CallInstr, Instr, Layout, List, LocalInstr, None, Some, [], and_parts, ap, are_registers, arith, bytes_of, call_bytes}
 use Rattle.zl_code.proofs.Common.{false, fault_by, first_some, instr_bytes, instr_fault, is_32_bits, is_call_in_range, is_instr_in_range, is_local_in_range}
-use Rattle.zl_code.proofs.Common.{is_some, is_unused_zero, layout_of, length, list_all, local_bytes, local_parts, ltb-true, names_registers, nat_lt, not}
+use Rattle.zl_code.proofs.Common.{is_some, is_unused_zero, length, list_all, local_bytes, local_parts, ltb-true, names_registers, nat_lt, not}
 use Rattle.zl_code.proofs.Common.{reading_of, refl, replicate, row_bytes, seven, slice_index, suc, sym, then_some, true, zero, ℕ, ◌%◌, ◌&&◌, ◌++◌, ◌<◌, ◌==◌}
 use Rattle.zl_code.proofs.Common.{◌∙◌, ◌∷◌, ◌≡◌}
 use Rattle.zl_code.proofs.Common.{call_row}
@@ -93,7 +93,8 @@ pub record IsRow (bytes : List ℕ) (l : Layout) : Type 0 where
   pub named : names_registers l.ending (reading_of bytes) ≡ true
   pub unused : is_unused_zero l (reading_of bytes) ≡ true
 
-pub no_fault-row : (v : Version) (raw : Bool) (bytes : List ℕ) (l : Layout) → layout_at v (slice_index bytes 0) ≡ Some l → instr_fault v raw bytes ≡ None → IsRow bytes l
+pub no_fault-row : (v : Version) (raw : Bool) (bytes : List ℕ) (l : Layout) → layout_at v (slice_index bytes 0) ≡ Some l
+    → instr_fault v raw bytes ≡ None → IsRow bytes l
 unfolding instr_fault
 no_fault-row v raw bytes l at none =
     let p = by (are_registers (reading_of bytes).registers) (names_registers l.ending (reading_of bytes)) (is_unused_zero l (reading_of bytes))

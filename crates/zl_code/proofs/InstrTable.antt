@@ -117,13 +117,13 @@ other_name n name opcode r has differs e same =
 
 -- ---- the end
 
-small : (name : List ℕ) (r : Row) → row_named name ≡ Some r → r.opcode < 88
+small : (name : List ℕ) (r : Row) → row_named name ≡ Some r → r.opcode < 91
 unfolding row_named
 small name r e =
-    ltb-true r.opcode 88 (each_found (λ x. nat_lt x.opcode 88 ≡ true) (λ x. pointwise ◌==◌ x.name name) rows r (all_of (λ x. nat_lt x.opcode 88) rows refl) e).0
+    ltb-true r.opcode 91 (each_found (λ x. nat_lt x.opcode 91 ≡ true) (λ x. pointwise ◌==◌ x.name name) rows r (all_of (λ x. nat_lt x.opcode 91) rows refl) e).0
 
 -- where no opcode has the name, no row has it
-pub no_name : (name : List ℕ) → ((r : Row) → row_named name ≡ Some r → 88 ≤ r.opcode) → row_named name ≡ None
+pub no_name : (name : List ℕ) → ((r : Row) → row_named name ≡ Some r → 91 ≤ r.opcode) → row_named name ≡ None
 no_name name above = by (row_named name) refl
   where
     by : (o : Option Row) → row_named name ≡ o → row_named name ≡ None

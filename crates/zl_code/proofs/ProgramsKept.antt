@@ -1,15 +1,16 @@
 -- Each process runs a program of the library, in every world of a run from a boot world.
-use Rattle.zl_code.proofs.Common.{Acts, AtCall, Awaited, Blocked, Body, Bool, Boots, CallBy, Choice, Ended, Entry, IsBoot, IsStuck, IsTrue, KILLED, Library}
-use Rattle.zl_code.proofs.Common.{List, Map, Moves, Next, None, Object, Option, Outcome, Packet, PacketAt, PortBody, Process, Ready, Refused, Request, Runs}
-use Rattle.zl_code.proofs.Common.{STUCK, Settles, SignalOf, Site, Some, State, Statement, Status, Step, TraceItem, Values, Wants, World, [], active, after_ok}
-use Rattle.zl_code.proofs.Common.{after_refusal, all_known, and_parts, answered, awaited_by, boot_effect, boot_fault, created_process, each, effect, ended}
-use Rattle.zl_code.proofs.Common.{entering_at, false, fired, fold, get, get-each, get-update, gives_ok, gives_refused, handles_given, has_key, if◌then◌else◌}
-use Rattle.zl_code.proofs.Common.{insert_all, is_job, is_some, is_within, listed, lives, made_ready, meets, new_handles, next_for, none-some, not, not-false}
-use Rattle.zl_code.proofs.Common.{object_at, ok_outcome, on_object, on_process, option_map, origin, packet_values, pid_of, process_create, process_ended}
-use Rattle.zl_code.proofs.Common.{process_killed, process_settled, process_start, process_with, process_with_all, process_without, receiver_of, refl, refusal}
-use Rattle.zl_code.proofs.Common.{remove_all, replied, same_Some, slice_get, started_with, stored_by, storing, subst, sym, taken, taken_handles, task_kill}
-use Rattle.zl_code.proofs.Common.{true, update, waiting, wakes, with_body, with_effect, with_killed, with_object, without, without_others, woken, woken_at_port}
-use Rattle.zl_code.proofs.Common.{woken_by, woken_by_first, woken_from, woken_if_there, ℕ, ℤ, ◌&&◌, ◌==◌, ◌∙◌, ◌∷◌, ◌≡◌}
+use Rattle.zl_code.proofs.Common.{Acts, AtCall, Awaited, Blocked, Body, Bool, Boots, CallBy, Choice, Ended, Entry, IsBoot, IsStuck, IsTrue, KILLED}
+use Rattle.zl_code.proofs.Common.{Library, List, Map, Moves, Next, None, Object, Option, Outcome, Packet, PacketAt, PortBody, Process, Ready, Refused}
+use Rattle.zl_code.proofs.Common.{Request, Runs, STUCK, Settles, SignalOf, Site, Some, State, Statement, Status, Step, TraceItem, Values, Wants, World, []}
+use Rattle.zl_code.proofs.Common.{active, after_ok, after_refusal, all_known, and_parts, answered, awaited_by, boot_effect, boot_fault, created_process}
+use Rattle.zl_code.proofs.Common.{each, effect, ended, entering_at, false, fired, fold, get, get-each, get-update, gives_ok, gives_refused, handles_given}
+use Rattle.zl_code.proofs.Common.{has_key, if◌then◌else◌, insert_all, is_job, is_some, is_within, keeping, kept_by, listed, lives, made_ready, meets}
+use Rattle.zl_code.proofs.Common.{new_handles, next_for, none-some, not, not-false, object_at, ok_outcome, on_object, on_process, option_map, origin}
+use Rattle.zl_code.proofs.Common.{packet_values, pid_of, process_create, process_ended, process_killed, process_settled, process_start, process_with}
+use Rattle.zl_code.proofs.Common.{process_with_all, process_without, receiver_of, refl, refusal, remove_all, replied, same_Some, slice_get, started_with}
+use Rattle.zl_code.proofs.Common.{stored_by, storing, subst, sym, taken, taken_handles, task_kill, true, update, waiting, wakes, with_body, with_effect}
+use Rattle.zl_code.proofs.Common.{with_killed, with_object, without, without_others, woken, woken_at_port, woken_by, woken_by_first, woken_from}
+use Rattle.zl_code.proofs.Common.{woken_if_there, ℕ, ℤ, ◌&&◌, ◌==◌, ◌∙◌, ◌∷◌, ◌≡◌}
 use Rattle.zl_rights.specs.declared.status.Status.TheVariants as status
 use Rattle.zl_code.specs.declared.boot.BootCause.TheVariants as cause
 use Rattle.zl_code.specs.declared.boot.Statement.TheVariants as statement
@@ -81,6 +82,10 @@ module _ (lib : Library) where
   stored w p (address, []) all = all
   stored w p (address, b ∷ bytes) all = one_listed w p _ (λ q. refl) all
 
+  kept : (w : World) (p : ℕ) (values : Option (ℕ × List ℕ)) → HavePrograms lib w → HavePrograms lib (keeping w p values)
+  kept w p None all = all
+  kept w p (Some x) all = one_listed w p _ (λ q. refl) all
+
   over : (w : World) (p : ℕ) (code : ℤ) → HavePrograms lib w → HavePrograms lib (ended w p code)
   unfolding ended
   over w p code all = one_listed w p (process_ended code) (ended_listed code) all
@@ -103,7 +108,8 @@ module _ (lib : Library) where
 
     with_all_done : (u : World) (r : Request) (vs : List ℕ) → refusal lib w p r ≡ None → HavePrograms lib u → HavePrograms lib (with_effect lib w u p r vs)
     with_all_done u r vs passes all =
-        stored _ p (stored_by w p r) (inserted _ (receiver_of w p r) (new_handles w p r) (entering_at r vs) (done u r vs passes all))
+        kept _ p (kept_by r vs)
+        (stored _ p (stored_by w p r) (inserted _ (receiver_of w p r) (new_handles w p r) (entering_at r vs) (done u r vs passes all)))
 
     told : (u : World) (s : Site) (answer : Status) (values : List ℕ) → HavePrograms lib u → HavePrograms lib (replied u p s answer values)
     unfolding replied

@@ -20,19 +20,19 @@ abbrev turn : CallName → Site → World → Choice → Acted
 turn call s w choice = settle_by 4 (call_by [] w 2 call s choice (refusal [] w 2 s.request))
 
 -- the rights of the first handle to an end: to transfer, read, write, signal, signal its peer, wait and inspect
-abbrev END_RIGHTS : ℕ
+abbrev pub END_RIGHTS : ℕ
 END_RIGHTS = 0xf00e
 
 -- a handle to the end k
-abbrev end_with : ℕ → ℕ → Entry
+abbrev pub end_with : ℕ → ℕ → Entry
 end_with k rights = record { koid = k; kind = kind.Channel; rights = rights_of rights }
 
 -- a message with these bytes and handles
-abbrev message : List ℕ → List Entry → Message
+abbrev pub message : List ℕ → List Entry → Message
 message bytes handles = record { bytes = bytes; handles = handles }
 
 -- what a job and event 3 are beside the ends 4 and 5 of a channel, at which these messages are to be read
-abbrev ends_with : List Message → List Message → Map Object
+abbrev pub ends_with : List Message → List Message → Map Object
 ends_with at_4 at_5 = beside_event ((4, record { body = ChannelEnd 5 at_4; raised = 0 }) ∷ (5, record { body = ChannelEnd 4 at_5; raised = 0 }) ∷ [])
 
 -- process 2 has these handles, and beside event 3 there are the ends 4 and 5 of a channel
@@ -46,7 +46,7 @@ with_one_end = λ handles at_5. record (with_ends handles [] []) {
 }
 
 -- the messages that are to be read at the object k
-abbrev queue_of_object : World → ℕ → List Message
+abbrev pub queue_of_object : World → ℕ → List Message
 queue_of_object w k = queue_in (body_of w k)
 
 -- process 2 has a handle with these rights to event 3 at the value 7
@@ -236,15 +236,25 @@ readable = with_ends both_ends (message (11 ∷ 12 ∷ []) (event_with FIRST_RIG
 -- the same world where process 2 has four bytes of memory
 abbrev with_memory : World
 with_memory = record readable {
-  processes =
-      (2, record (process_of [] both_ends None) { cpu = record { counter = 0; registers = replicate 32 9; memory = 1 ∷ 2 ∷ 3 ∷ 4 ∷ []; slots = []; counters = [] } }) ∷ [];
+  processes = (
+    2,
+    record (process_of [] both_ends None) {
+      cpu = record {
+        counter = 0;
+        registers = replicate 32 9;
+        memory = 1 ∷ 2 ∷ 3 ∷ 4 ∷ [];
+        slots = [];
+        counters = [];
+      };
+    },
+  ) ∷ [];
 }
 
 -- the world after the first message was read
 abbrev read : World
 read = after readable (turn name.ChanReadEtc (reading 2) with_memory (Values (20 ∷ [])))
 
-abbrev memory_in : Option Process → List ℕ
+abbrev pub memory_in : Option Process → List ℕ
 memory_in None = []
 memory_in (Some q) = q.cpu.memory
 

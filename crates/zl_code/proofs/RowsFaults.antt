@@ -86,7 +86,32 @@ rows_of_one_fault :
     -- process_exit has no target, and the last byte of its field is set.
     × (FirstIs (with_byte 35 1 exit) fault.UnusedField)
 unfolding first_fault header_fault start_fault slot_fault instr_fault pieces row_of all_nest all_stay blocks_at
-rows_of_one_fault = (refl, refl, refl, refl, refl, refl, refl, refl, refl, refl, refl, refl, refl, refl, refl, refl, refl, refl, refl, refl, refl, refl, refl, refl)
+rows_of_one_fault =
+    (refl, refl, refl, refl, refl, refl, refl, refl, refl, refl, refl, refl, refl, refl, refl, refl, refl, refl, refl, refl, refl, refl, refl, refl)
+
+-- process_exit's place taken by the opcode, in version 2
+abbrev in_two : ℕ → List ℕ
+in_two opcode = with_byte 4 2 (with_byte 20 opcode exit)
+
+rows_of_later_calls :
+    -- Version 1 knows no call behind eventpair_create.
+    (FirstIs (with_byte 20 88 exit) fault.UnknownOp)
+    × (FirstIs (with_byte 20 89 exit) fault.UnknownOp)
+    × (FirstIs (with_byte 20 90 exit) fault.UnknownOp)
+    -- Version 2 knows three.
+    × (first_fault (in_two 88) ≡ None)
+    × (first_fault (in_two 89) ≡ None)
+    × (first_fault (in_two 90) ≡ None)
+    × (FirstIs (in_two 91) fault.UnknownOp)
+    -- Two of them have the number of a slot array, and no target.
+    × (first_fault (with_byte 28 1 (in_two 88)) ≡ None)
+    × (first_fault (with_byte 28 1 (in_two 89)) ≡ None)
+    × (FirstIs (with_byte 32 1 (in_two 88)) fault.UnusedField)
+    × (FirstIs (with_byte 32 1 (in_two 89)) fault.UnusedField)
+    -- The third has no number.
+    × (FirstIs (with_byte 28 1 (in_two 90)) fault.UnusedField)
+unfolding first_fault header_fault start_fault slot_fault instr_fault pieces row_of all_nest all_stay blocks_at
+rows_of_later_calls = (refl, refl, refl, refl, refl, refl, refl, refl, refl, refl, refl, refl)
 
 -- ---- two faults at once
 

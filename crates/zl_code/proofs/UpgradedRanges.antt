@@ -1,6 +1,6 @@
 -- An image that isn't held back is in range in version 2.
-use Rattle.zl_code.proofs.Common.{Bool, Image, Instr, List, None, Option, Some, [], and_from, and_parts, cases_Bool, false, if◌then◌else◌, inl, inr, is_in_range}
-use Rattle.zl_code.proofs.Common.{is_instr_in_range, list_all, not, not-true, refl, slice_index, sym, true, zero, ℕ, ◌&&◌, ◌+◌, ◌∙◌, ◌∷◌, ◌≡◌}
+use Rattle.zl_code.proofs.Common.{Bool, Image, Instr, List, None, Some, [], and_from, and_parts, false, if◌then◌else◌, is_in_range}
+use Rattle.zl_code.proofs.Common.{is_instr_in_range, list_all, not, not-true, refl, slice_index, sym, true, ℕ, ◌&&◌, ◌+◌, ◌∙◌, ◌∷◌, ◌≡◌}
 use Rattle.std.specs.List.{position, position_from}
 use Rattle.std.proofs.lemmas.Iterator.Adapters.{position_from-zero}
 use Rattle.zl_code.specs.Instructions.{is_new}

@@ -1,13 +1,14 @@
 -- No call but wait_async, port_cancel and task_kill looks at registered waits or at blocked processes: it does the same whatever waits beside it.
-use Rattle.zl_code.proofs.Common.{Action, Bool, CallBy, Calls, Choice, Condition, Entry, Err, IsTrue, Kind, Library, List, None, Ok, Operand, Option, Outcome}
-use Rattle.zl_code.proofs.Common.{Refused, Request, Site, Some, Status, Values, Wait, Wants, World, [], action_of, active, after_ok, after_refusal, answer_if}
-use Rattle.zl_code.proofs.Common.{ap, awaited_by, bits, by_look_up, by_policy, chan_read_etc, choosing, close, condition_of, contains, copy_of, creates, effect}
-use Rattle.zl_code.proofs.Common.{ended, ends_caller, ends_if_kill, entering_at, entry_at, examined, false, faults, filter, first_some, get, gets_all, gives_ok}
-use Rattle.zl_code.proofs.Common.{gives_refused, handle_operands, handles_to, has_child_job, has_child_process, has_koids, has_room, if◌then◌else◌, insert_all}
-use Rattle.zl_code.proofs.Common.{is_empty, is_process, listed, may_choose, may_want, new_handles, not, ok_outcome, on_object, on_process, operand}
-use Rattle.zl_code.proofs.Common.{operand_after, operand_of, outcome_of, parent_of, port_cancel, process_with, process_without, receiver_of, refl, refusal}
-use Rattle.zl_code.proofs.Common.{remove_all, replace, replied, seen_after, stored_by, storing, sym, taken, taken_handles, takes, task_kill, true, true≢false}
-use Rattle.zl_code.proofs.Common.{unless_allowed, wait_async, wait_one, wait_poll, with_effect, with_object, within, ℕ, ℤ, ◌&&◌, ◌==◌, ◌∙◌, ◌∷◌, ◌≡◌}
+use Rattle.zl_code.proofs.Common.{Action, Bool, CallBy, Calls, Choice, Condition, Entry, Err, IsTrue, Kind, Library, List, None, Ok, Operand, Option}
+use Rattle.zl_code.proofs.Common.{Outcome, Refused, Request, Site, Some, Status, Values, Wait, Wants, World, [], action_of, active, after_ok}
+use Rattle.zl_code.proofs.Common.{after_refusal, answer_if, ap, awaited_by, bits, by_look_up, by_policy, chan_read_etc, choosing, close, condition_of}
+use Rattle.zl_code.proofs.Common.{contains, copy_of, creates, effect, ended, ends_caller, ends_if_kill, entering_at, entry_at, examined, false, faults}
+use Rattle.zl_code.proofs.Common.{filter, first_some, get, gets_all, gives_ok, gives_refused, handle_operands, handles_to, has_child_job}
+use Rattle.zl_code.proofs.Common.{has_child_process, has_koids, has_room, if◌then◌else◌, insert_all, is_empty, is_process, keeping, kept_by, listed}
+use Rattle.zl_code.proofs.Common.{may_choose, may_want, new_handles, not, ok_outcome, on_object, on_process, operand, operand_after, operand_of}
+use Rattle.zl_code.proofs.Common.{outcome_of, parent_of, port_cancel, process_with, process_without, receiver_of, refl, refusal, remove_all, replace}
+use Rattle.zl_code.proofs.Common.{replied, seen_after, stored_by, storing, sym, taken, taken_handles, takes, task_kill, true, true≢false, unless_allowed}
+use Rattle.zl_code.proofs.Common.{wait_async, wait_one, wait_poll, with_effect, with_object, within, ℕ, ℤ, ◌&&◌, ◌==◌, ◌∙◌, ◌∷◌, ◌≡◌}
 use Rattle.zl_rights.specs.declared.policy.Action.TheVariants as action
 use Rattle.zl_rights.specs.declared.policy.Condition.TheVariants as condition
 use Rattle.zl_rights.specs.declared.status.Status.TheVariants as status
@@ -118,6 +119,12 @@ module _ (p : ℕ) (ws : List Wait) (n : ℕ) (b : List ℕ) where
   storing_among w (address, []) = refl
   storing_among w (address, x ∷ bytes) = refl
 
+  -- values are kept alike
+  pub keeping_among : (w : World) (kept : Option (ℕ × List ℕ)) → keeping (with_waiters w ws n b) p kept ≡ with_waiters (keeping w p kept) ws n b
+  unfolding on_process
+  keeping_among w None = refl
+  keeping_among w (Some x) = refl
+
   -- a caller is answered alike
   pub replied_among : (w : World) (s : Site) (answer : Status) (values : List ℕ)
       → replied (with_waiters w ws n b) p s answer values ≡ with_waiters (replied w p s answer values) ws n b
@@ -144,10 +151,11 @@ module _ (lib : Library) (w : World) (p : ℕ) (ws : List Wait) (n : ℕ) (b : L
   pub with_effect_among : (u : World) (r : Request) (vs : List ℕ) → looks_at_waits r ≡ false
       → with_effect lib (with_waiters w ws n b) (with_waiters u ws n b) p r vs ≡ with_waiters (with_effect lib w u p r vs) (waits_left r p ws) n b
   with_effect_among u r vs looks =
-      (λ i. storing (insert_all (effect_among u r looks vs i) (receiver_same lib w p ws n b r i) (handles_same lib w p ws n b r i) (entering_at r vs)) p
-      (stored_same lib w p ws n b r i)) ∙ (ap (λ v. storing v p (stored_by w p r))
+      (λ i. keeping (storing (insert_all (effect_among u r looks vs i) (receiver_same lib w p ws n b r i) (handles_same lib w p ws n b r i) (entering_at r vs))
+      p (stored_same lib w p ws n b r i)) p (kept_by r vs)) ∙ (ap (λ v. keeping (storing v p (stored_by w p r)) p (kept_by r vs))
       (insert_among (receiver_of w p r) (waits_left r p ws) n b (effect lib w u p r vs) (new_handles w p r) (entering_at r vs))
-      ∙ storing_among p (waits_left r p ws) n b _ (stored_by w p r))
+      ∙ (ap (λ v. keeping v p (kept_by r vs)) (storing_among p (waits_left r p ws) n b _ (stored_by w p r))
+      ∙ keeping_among p (waits_left r p ws) n b _ (kept_by r vs)))
 
 -- ---- the call
 

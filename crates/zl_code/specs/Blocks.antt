@@ -1,5 +1,6 @@
 -- Counted blocks: rep and endrep nest as brackets, and who is in blocks has one counter for each.
 use Rattle.std.specs.Prelude.{ℕ, zero, suc, ◌≡◌, ◌+◌, ◌-◌, ◌<◌, ◌≤◌, ◌==◌, ◌&&◌, nat_lt, nat_le, Bool, true, false, List, [], ◌∷◌, length, map, Option, Some, None, slice_get}
+use Rattle.std.specs.List.{list_all}
 use Rattle.zl_code.specs.declared.instr.Instr.{Instr}
 use Rattle.zl_code.specs.declared.instr.Instr.TheVariants as instr
 use Rattle.zl_code.specs.declared.instr.LocalInstr.TheVariants as local
@@ -16,6 +17,15 @@ mark_of _ = mark.Plain
 
 abbrev pub marks_of : List Instr → List Mark
 marks_of code = map mark_of code
+
+-- the instruction neither begins a block nor ends one
+abbrev pub is_plain : Mark → Bool
+is_plain mark.Plain = true
+is_plain _ = false
+
+-- no instruction begins a block or ends one
+abbrev pub is_flat : List Instr → Bool
+is_flat code = list_all (λ instr. is_plain (mark_of instr)) code
 
 -- ---- the blocks that a place is in
 

@@ -18,7 +18,7 @@ use Rattle.zl_code.specs.declared.history.Outcome.TheVariants as outcome
 use Rattle.zl_code.specs.Image.{Library}
 use Rattle.zl_code.specs.Instructions.{call_row}
 use Rattle.zl_code.specs.Asked.{Operands, Given, operand_fields}
-use Rattle.zl_code.specs.Tests.{answer_if, entry_at, object_at, body_of, may_change, has_room, has_koids, copy_of, is_too_large, has_place_for, peer_at, policy_in, queue_at, first_bytes, first_handles, sizes_of, entries_at}
+use Rattle.zl_code.specs.Tests.{answer_if, entry_at, object_at, body_of, may_change, has_room, has_koids, copy_of, is_too_large, has_place_for, peer_at, policy_in, queue_at, first_bytes, first_handles, sizes_of, info_of, entries_at}
 use Rattle.zl_code.specs.Operands.{contains}
 use Rattle.zl_code.specs.Effects.{on_object, on_process, with_object, with_process, new_entry, object_changed, message_sent, message_read, told_of, without_waits, signed_word}
 use Rattle.zl_code.specs.Starting.{created_process, is_created, program_of, started_with}
@@ -37,6 +37,7 @@ name_of (ask n operands given) = n
 
 -- Each call by the values of its operands; h is the value of a handle. A message has bytes of the memory and the handles hs of a list;
 -- what is read goes to the address, and has room for so many bytes and handles. A packet that is cancelled came by the handle source.
+-- Where a message is read into a slot array, that has room for so many handles.
 -- A new process is to run the program with this number in the job; it starts with h and the word. A task is a process or a job.
 -- Modes, conditions and actions are numbers.
 pattern abbrev pub close : (h : ℕ) → Request
@@ -111,7 +112,33 @@ job_set_policy j mode condition action = ask name.JobSetPolicy (j, (mode, (condi
 pattern abbrev pub eventpair_create : Request
 eventpair_create = ask name.EventpairCreate tt tt
 
+pattern abbrev pub chan_write_slots : (c : ℕ) (bytes hs : List ℕ) → Request
+chan_write_slots c bytes hs = ask name.ChanWriteSlots (c, tt) (bytes, hs)
+
+pattern abbrev pub chan_read_slots : (c address room array places : ℕ) → Request
+chan_read_slots c address room array places = ask name.ChanReadSlots (c, (address, (room, tt))) (array, places)
+
+pattern abbrev pub handle_info : (h : ℕ) → Request
+handle_info h = ask name.HandleInfo (h, tt) tt
+
 -- ---- how it is refused
+
+-- how the message is refused at the channel end
+abbrev pub send_refused : World → ℕ → ℕ → List ℕ → List ℕ → List (Option Outcome)
+send_refused w p c bytes hs =
+    answer_if (contains hs c) status.NotSupported
+    ∷ answer_if (is_too_large bytes hs) status.OutOfRange
+    ∷ answer_if (not (has_key w.objects (peer_at w p c))) status.PeerClosed
+    ∷ []
+
+-- how reading is refused at the channel end, with room for so many bytes and handles
+abbrev pub read_refused : World → ℕ → ℕ → ℕ → ℕ → List (Option Outcome)
+read_refused w p c room places =
+    answer_if (is_empty (queue_at w p c) && not (has_key w.objects (peer_at w p c))) status.PeerClosed
+    ∷ answer_if (is_empty (queue_at w p c)) status.ShouldWait
+    ∷ answer_if (not (has_place_for room places (queue_at w p c))) status.BufferTooSmall
+    ∷ answer_if (not (has_room w p (length (first_handles (queue_at w p c))))) status.NoResources
+    ∷ []
 
 -- the listed answers in their order; here each handle operand is live, of its kind and with its rights
 unfoldable pub listed : Library → World → ℕ → Request → List (Option Outcome)
@@ -126,17 +153,8 @@ listed lib w p (replace h rights) =
 listed lib w p chan_create =
     answer_if (not (has_room w p 2 && has_koids w 2)) status.NoResources
     ∷ []
-listed lib w p (chan_write c bytes hs) =
-    answer_if (contains hs c) status.NotSupported
-    ∷ answer_if (is_too_large bytes hs) status.OutOfRange
-    ∷ answer_if (not (has_key w.objects (peer_at w p c))) status.PeerClosed
-    ∷ []
-listed lib w p (chan_read_etc c address room places) =
-    answer_if (is_empty (queue_at w p c) && not (has_key w.objects (peer_at w p c))) status.PeerClosed
-    ∷ answer_if (is_empty (queue_at w p c)) status.ShouldWait
-    ∷ answer_if (not (has_place_for room places (queue_at w p c))) status.BufferTooSmall
-    ∷ answer_if (not (has_room w p (length (first_handles (queue_at w p c))))) status.NoResources
-    ∷ []
+listed lib w p (chan_write c bytes hs) = send_refused w p c bytes hs
+listed lib w p (chan_read_etc c address room places) = read_refused w p c room places
 listed lib w p event_create =
     answer_if (not (has_room w p 1 && has_koids w 1)) status.NoResources
     ∷ []
@@ -196,6 +214,9 @@ listed lib w p (job_set_policy j mode condition action) =
 listed lib w p eventpair_create =
     answer_if (not (has_room w p 2 && has_koids w 2)) status.NoResources
     ∷ []
+listed lib w p (chan_write_slots c bytes hs) = send_refused w p c bytes hs
+listed lib w p (chan_read_slots c address room array places) = read_refused w p c room places
+listed lib w p (handle_info h) = []
 
 -- ---- the handles that it makes
 
@@ -211,6 +232,7 @@ new_handles w p (process_create job program) = new_entry w.next_koid kind.Proces
 new_handles w p (process_start process h word) = option_to_list (entry_at w p h)
 new_handles w p (job_create j) = new_entry w.next_koid kind.Job ∷ []
 new_handles w p eventpair_create = new_entry w.next_koid kind.Eventpair ∷ new_entry (w.next_koid + 1) kind.Eventpair ∷ []
+new_handles w p (chan_read_slots c address room array places) = first_handles (queue_at w p c)
 new_handles w p _ = []
 
 -- the process whose table new handles enter
@@ -262,11 +284,21 @@ effect lib w taken p (job_create j) vs = with_object taken (job_within (object_a
 effect lib w taken p (job_set_policy j mode condition action) vs =
     on_object taken (object_at w p j) (policy_changed (setting_of mode condition action))
 effect lib w taken p eventpair_create vs = with_object (with_object taken (PairEnd (w.next_koid + 1))) (PairEnd w.next_koid)
+effect lib w taken p (chan_write_slots c bytes hs) vs =
+    on_object taken (peer_at w p c) (message_sent (record { bytes = bytes; handles = entries_at w p hs }))
+effect lib w taken p (chan_read_slots c address room array places) vs = on_object taken (object_at w p c) message_read
+effect lib w taken p (handle_info h) vs = taken
 
 -- the bytes that the call stores in its caller's memory, and the address of the first
 abbrev pub stored_by : World → ℕ → Request → ℕ × List ℕ
 stored_by w p (chan_read_etc c address room places) = (address, first_bytes (queue_at w p c))
+stored_by w p (chan_read_slots c address room array places) = (address, first_bytes (queue_at w p c))
 stored_by w p request = (0, [])
+
+-- the values that the call keeps in a slot array of its caller from the first place on, behind the array's number
+abbrev pub kept_by : Request → List ℕ → Option (ℕ × List ℕ)
+kept_by (chan_read_slots c address room array places) vs = Some (array, vs)
+kept_by request vs = None
 
 -- ---- what its answer gives, and how it ends
 
@@ -279,11 +311,14 @@ gives_ok w p (wait_poll h mask) vs = active_at w p h ∷ []
 gives_ok w p (port_wait port) vs = first_values (packets_at w p port)
 gives_ok w p (port_poll port) vs = first_values (packets_at w p port)
 gives_ok w p (process_start process h word) vs = []
+gives_ok w p (chan_read_slots c address room array places) vs = sizes_of (queue_at w p c)
+gives_ok w p (handle_info h) vs = info_of (entry_at w p h)
 gives_ok w p request vs = vs
 
 -- the same where it is refused with the status
 unfoldable pub gives_refused : World → ℕ → Request → Status → List ℕ
 gives_refused w p (chan_read_etc c address room places) status.BufferTooSmall = sizes_of (queue_at w p c)
+gives_refused w p (chan_read_slots c address room array places) status.BufferTooSmall = sizes_of (queue_at w p c)
 gives_refused w p (wait_poll h mask) status.TimedOut = active_at w p h ∷ []
 gives_refused w p request answer = []
 

@@ -3,7 +3,7 @@ pub use Rattle.zl_rights.specs.Common.{Blocked, Body, ChannelEnd, Cpu, Created, 
 unfoldable pub use Rattle.zl_rights.specs.Common.{answered, each, fired, get, has_living_child, in_queue, in_table, is_held, is_process, put, update, wakes, where_key, without, without_others}
 pub use Rattle.zl_code.specs.Boot.{Boots, FirstFault, IsBoot, MOST_ITEMS, at_limit, at_statement, is_job_body, may_boot, origin}
 unfoldable pub use Rattle.zl_code.specs.Boot.{boot_effect, boot_fault}
-pub use Rattle.zl_code.specs.CallTable.{Request, chan_create, chan_read_etc, chan_write, close, dup, event_create, eventpair_create, job_create, job_set_policy, port_cancel, port_create, port_poll, port_queue, port_wait, process_create, process_exit, process_start, replace, signal, signal_peer, task_kill, wait_async, wait_one, wait_poll}
+pub use Rattle.zl_code.specs.CallTable.{Request, chan_create, chan_read_etc, chan_read_slots, chan_write, chan_write_slots, close, dup, event_create, eventpair_create, handle_info, job_create, job_set_policy, port_cancel, port_create, port_poll, port_queue, port_wait, process_create, process_exit, process_start, replace, signal, signal_peer, task_kill, wait_async, wait_one, wait_poll}
 unfoldable pub use Rattle.zl_code.specs.CallTable.{effect, gives_ok, gives_refused, listed, new_handles}
 pub use Rattle.zl_code.specs.Calls.{Calls, Choice, Refused, Values, Wants, cpu_answered, grows, ok_outcome, taken, with_effect}
 unfoldable pub use Rattle.zl_code.specs.Calls.{may_choose, replied, taken_handles}

@@ -1,6 +1,6 @@
 -- What a call can do to a world, in words that name no call.
 use Rattle.zl_rights.specs.Common.{bits, rights_of, default_rights_of, put, without, update, has_key, World, Process, Blocked, Ended, Object, Body, ChannelEnd, lives}
-use Rattle.std.specs.Prelude.{ℕ, ◌+◌, ◌%◌, ◌^◌, ℤ, pos, Bool, true, false, ◌&&◌, not, ◌==◌, nat_lt, List, [], ◌∷◌, ◌++◌, drop, Option, Some, None, if◌then◌else◌, ◌-ℤ◌}
+use Rattle.std.specs.Prelude.{ℕ, ◌+◌, ◌%◌, ◌^◌, ℤ, pos, Bool, true, false, ◌&&◌, not, ◌==◌, nat_lt, List, [], ◌∷◌, ◌++◌, drop, Option, Some, None, if◌then◌else◌, slice_get, slice_set, ◌-ℤ◌}
 use Rattle.std.specs.List.{filter}
 use Rattle.zl_rights.specs.declared.kind.Kind.{Kind}
 use Rattle.zl_rights.specs.declared.entry.Entry.{Entry}
@@ -126,6 +126,21 @@ abbrev pub storing : World → ℕ → ℕ × List ℕ → World
 storing w p (address, []) = w
 storing w p (address, b ∷ bytes) =
     on_process w p (λ q. record q { cpu = record q.cpu { memory = overwritten q.cpu.memory address (b ∷ bytes) } })
+
+-- the slot arrays with these values in the first places of one that is there
+abbrev pub filled_in : List (List ℕ) → ℕ → List ℕ → Option (List ℕ) → List (List ℕ)
+filled_in slots array vs None = slots
+filled_in slots array vs (Some places) = slice_set slots array (overwritten places 0 vs)
+
+-- the same by the number of the array, if one is named
+abbrev pub slots_filled : List (List ℕ) → Option (ℕ × List ℕ) → List (List ℕ)
+slots_filled slots None = slots
+slots_filled slots (Some x) = filled_in slots x.0 x.1 (slice_get slots x.0)
+
+-- the world with these values in a slot array of p, if one is named
+abbrev pub keeping : World → ℕ → Option (ℕ × List ℕ) → World
+keeping w p None = w
+keeping w p (Some x) = on_process w p (λ q. record q { cpu = record q.cpu { slots = slots_filled q.cpu.slots (Some x) } })
 
 -- the process is blocked, last of all, if there is something to wait for
 abbrev pub waiting : World → ℕ → List ℕ → Option Awaited → World

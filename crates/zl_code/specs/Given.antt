@@ -20,4 +20,6 @@ given call.PortPoll = gives.Packet
 given call.ProcessCreate = gives.Makes kind.Process
 given call.JobCreate = gives.Makes kind.Job
 given call.EventpairCreate = gives.Makes kind.Eventpair
+given call.ChanReadSlots = gives.Sizes
+given call.HandleInfo = gives.Tells
 given _ = gives.Status

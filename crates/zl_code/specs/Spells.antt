@@ -24,7 +24,7 @@ use Rattle.zl_code.specs.declared.instr.LocalInstr.TheVariants as local
 use Rattle.zl_code.specs.declared.instr.CallInstr.{CallInstr}
 use Rattle.zl_code.specs.Limits.{most_instructions, most_memory, most_budget, most_starts, most_slot_arrays, most_places, register_count, most_registers, most_handles, no_register, header_length, declaration_length, instruction_length}
 use Rattle.zl_code.specs.Image.{Image, is_among}
-use Rattle.zl_code.specs.Instructions.{Layout, call_row, is_known, layout_at, layout_in, layout_of}
+use Rattle.zl_code.specs.Instructions.{Layout, call_row, is_known, layout_at, layout_in}
 use Rattle.zl_code.specs.Jumps.{jump_of}
 use Rattle.zl_code.specs.Blocks.{are_blocks, marks_of}
 use Rattle.zl_code.specs.declared.blocks.Mark.{Mark}
@@ -169,6 +169,8 @@ abbrev pub is_ending_clear : Ending → Reading → Bool
 is_ending_clear ending.Nothing r = (r.imm == 0) && (r.target == 0)
 is_ending_clear ending.Number r = r.target == 0
 is_ending_clear ending.Room r = r.target == 0
+is_ending_clear ending.FromSlots r = r.target == 0
+is_ending_clear ending.IntoSlots r = r.target == 0
 is_ending_clear ending.Target r = r.imm == 0
 is_ending_clear ending.Both r = true
 is_ending_clear ending.Handles r = is_packed r.places
@@ -410,6 +412,8 @@ abbrev pub ending_bytes : Ending → Reading → List ℕ
 ending_bytes ending.Nothing r = bytes_of 4 0 ++ bytes_of 4 0
 ending_bytes ending.Number r = bytes_of 4 r.imm ++ bytes_of 4 0
 ending_bytes ending.Room r = bytes_of 4 r.imm ++ bytes_of 4 0
+ending_bytes ending.FromSlots r = bytes_of 4 r.imm ++ bytes_of 4 0
+ending_bytes ending.IntoSlots r = bytes_of 4 r.imm ++ bytes_of 4 0
 ending_bytes ending.Target r = bytes_of 4 0 ++ bytes_of 4 r.target
 ending_bytes ending.Both r = bytes_of 4 r.imm ++ bytes_of 4 r.target
 ending_bytes ending.Handles r = r.places

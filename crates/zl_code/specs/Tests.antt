@@ -2,7 +2,7 @@
 use Rattle.std.specs.List.{flat_map}
 use Rattle.std.specs.Option.{option_to_list}
 use Rattle.std.specs.Bool.{then_some}
-use Rattle.zl_rights.specs.Common.{SIGNALED, within, narrowed, condition_number, Map, get, World, Process, Object, Body, ChannelEnd, EventBody, JobBody, PairEnd, ProcessBody, queue_of}
+use Rattle.zl_rights.specs.Common.{SIGNALED, bits, within, narrowed, condition_number, Map, get, World, Process, Object, Body, ChannelEnd, EventBody, JobBody, PairEnd, ProcessBody, queue_of}
 use Rattle.zl_rights.specs.World.{Message}
 use Rattle.std.specs.Prelude.{ℕ, ◌+◌, ◌^◌, Bool, ◌&&◌, ◌||◌, nat_le, nat_lt, List, [], ◌∷◌, length, Option, Some, None, unwrap_or}
 use Rattle.zl_rights.specs.declared.rights.Rights.{Rights}
@@ -11,7 +11,7 @@ use Rattle.zl_rights.specs.declared.policy.Condition.{Condition}
 use Rattle.zl_rights.specs.declared.policy.Action.{Action}
 use Rattle.zl_rights.specs.declared.policy.Action.TheVariants as action
 use Rattle.zl_rights.specs.declared.entry.Entry.{Entry}
-use Rattle.zl_rights.specs.Numbers.{USER_SIGNALS}
+use Rattle.zl_rights.specs.Numbers.{USER_SIGNALS, kind_number}
 use Rattle.zl_code.specs.declared.history.Outcome.{Outcome}
 use Rattle.zl_code.specs.declared.history.Outcome.TheVariants as outcome
 
@@ -141,6 +141,11 @@ first_handles (m ∷ ms) = m.handles
 -- how many bytes and how many handles the first message has
 abbrev pub sizes_of : List Message → List ℕ
 sizes_of queue = length (first_bytes queue) ∷ length (first_handles queue) ∷ []
+
+-- what is told of a handle: its kind and its rights
+abbrev pub info_of : Option Entry → List ℕ
+info_of None = []
+info_of (Some e) = kind_number e.kind ∷ bits e.rights ∷ []
 
 -- the first message has at most so many bytes and handles
 abbrev pub has_place_for : ℕ → ℕ → List Message → Bool

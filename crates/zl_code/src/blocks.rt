@@ -5,7 +5,7 @@ ghost use Rattle.std.specs.Option.{option_map};
 ghost use Rattle.zl_code.specs.Jumps.{jump_of};
 ghost use Rattle.zl_code.specs.Limits.{most_blocks, most_instructions};
 ghost use Rattle.zl_code.specs.Lists.{at};
-ghost use Rattle.zl_code.specs.Blocks.{mark_of, marks_of, is_rep_to, is_end_of, nests, are_blocks, all_nest, all_stay};
+ghost use Rattle.zl_code.specs.Blocks.{mark_of, marks_of, is_rep_to, is_end_of, nests, are_blocks, all_nest, all_stay, is_flat, is_plain};
 ghost use Rattle.zl_code.specs.Blocks.{AreHomes, AreWalked, deeper, home_behind, is_same_home, stays_by};
 
 use crate::instr::{Instr, LocalInstr};
@@ -41,6 +41,20 @@ pub(crate) fn mark_of(instr: &Instr) -> Mark
         Instr::Local(LocalInstr::EndRep { rep }) => Mark::EndRep { rep: *rep },
         _ => Mark::Plain,
     }
+}
+
+/// Whether the instruction neither begins a block nor ends one.
+fn is_plain(instr: &Instr) -> bool
+    ensures { result ≡ is_plain (mark_of instr.now) }
+{
+    matches!(mark_of(instr), Mark::Plain)
+}
+
+/// Whether no instruction begins a block or ends one.
+pub(crate) fn is_flat(code: &[Instr]) -> bool
+    ensures { result ≡ is_flat code.now }
+{
+    code.iter().all(is_plain)
 }
 
 fn mark_at(code: &[Instr], place: usize) -> Option<Mark>
@@ -208,10 +222,14 @@ fn all_stay(code: &[Instr], homes: &[Option<u32>]) -> bool
 /// Whether the code keeps the block rule: `rep` and `endrep` nest as brackets, at most four deep, each
 /// names the other, a block is gone round 1 to 1,000,000 times, and a jump leads to where the same
 /// blocks are; out of the code none is. Only memory can be refused. Own profile.
+#[tactic(auto, using(crate::proofs::Flat::flat_blocks))]
 pub fn are_blocks(alloc: Global, code: &[Instr]) -> Result<bool, AllocError>
     requires { length code.now ≤ most_instructions }
     ensures { IfOk result (λ kept. kept ≡ are_blocks (marks_of code.now) (map jump_of code.now)) }
 {
+    if is_flat(code) {
+        return Ok(true);
+    }
     match walk(alloc, code)? {
         Some(homes) => Ok(all_stay(code, &homes)),
         None => Ok(false),

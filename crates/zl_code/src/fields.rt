@@ -134,10 +134,10 @@ fn is_ending_clear(ending: Ending, fields: &Fields) -> bool
 {
     match ending {
         Ending::Nothing => fields.imm() == 0 && fields.target() == 0,
-        Ending::Number | Ending::Room => fields.target() == 0,
         Ending::Target => fields.imm() == 0,
         Ending::Both => true,
         Ending::Handles => is_packed(&fields.last),
+        _ => fields.target() == 0,
     }
 }
 

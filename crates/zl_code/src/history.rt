@@ -32,6 +32,9 @@ pub enum CallName {
     JobCreate,
     JobSetPolicy,
     EventpairCreate,
+    ChanWriteSlots,
+    ChanReadSlots,
+    HandleInfo,
 }
 
 /// How a system call ends. Own profile.

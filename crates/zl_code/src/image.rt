@@ -1,12 +1,12 @@
 ghost use Rattle.std.specs.Prelude.{◌≡◌, ◌≤◌, ◌<◌, ◌==◌, length, OnSome, IsTrue};
 ghost use Rattle.zl_code.specs.Limits.{most_instructions, most_memory, most_budget, most_starts, most_slot_arrays};
 ghost use Rattle.std.specs.Prelude.{slice_get};
-ghost use Rattle.zl_code.specs.Blocks.{marks_of};
+ghost use Rattle.zl_code.specs.Blocks.{is_flat, marks_of};
 ghost use Rattle.zl_code.specs.Image.{instr_at, local_at, call_at, is_among, can_be_needed, needs_value};
 ghost use Rattle.zl_code.specs.Spells.{is_in_range, version_number};
 ghost use Rattle.zl_code.specs.declared.image.DecodeFault.TheVariants.{NoMemory};
 
-use crate::blocks::{Mark, mark_of};
+use crate::blocks::{Mark, is_flat, mark_of};
 use crate::instr::{CallInstr, Instr, LocalInstr};
 use std::alloc::{AllocError, AllocFailed};
 use std::marker::Model;
@@ -270,6 +270,13 @@ impl Image {
             Some(Instr::Call(call)) => Some(*call),
             _ => None,
         }
+    }
+
+    /// Whether the program has no counted block. Own profile.
+    pub fn is_flat(&self) -> bool
+        ensures { result ≡ is_flat self.now.code }
+    {
+        is_flat(&self.code)
     }
 
     /// What the n-th instruction is to counted blocks; nothing past the last.

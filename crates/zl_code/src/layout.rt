@@ -17,6 +17,10 @@ pub enum Ending {
     Room,
     /// A list of registers with handles.
     Handles,
+    /// The number of a slot array. Handles go from as many of its first places as the fifth register says.
+    FromSlots,
+    /// The number of a slot array. Handles that are received go to its first places.
+    IntoSlots,
 }
 
 /// The kinds of handles that an operand takes. Own profile.
@@ -65,6 +69,8 @@ pub enum Gives {
     Signals,
     /// A packet.
     Packet,
+    /// The kind and the rights of the handle in the second register.
+    Tells,
 }
 
 /// What an instruction does with its registers and with its last eight bytes. Own profile.
@@ -80,7 +86,7 @@ pub struct Columns {
     pub condition: Option<Condition>,
     /// Whether memory may be refused to it.
     pub grows: bool,
-    /// What it does with each register of a list in its last eight bytes, if it has one.
+    /// What it does with each handle of a list, in registers or in slots, if it has one.
     pub in_list: Option<Field>,
 }
 

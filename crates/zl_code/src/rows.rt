@@ -9,7 +9,7 @@ ghost use Rattle.zl_code.specs.Instructions.{call_name, call_row, calls, is_know
 
 use crate::history::CallName;
 use crate::image::Version;
-use crate::layout::Gives::{Copies, Makes, Packet, Signals, Sizes, Status};
+use crate::layout::Gives::{Copies, Makes, Packet, Signals, Sizes, Status, Tells};
 use crate::layout::Kinds::{Any, Ends, Only, Tasks};
 use crate::layout::{Columns, Ending, Field, Row};
 use zl_rights::Condition::{NewChannel, NewEvent, NewEventpair, NewPort, NewProcess};
@@ -20,7 +20,7 @@ use zl_rights::Rights;
 pub(crate) const FIRST_CALL: u8 = 64;
 
 /// All known opcodes are below.
-const OPCODE_END: u8 = 88;
+const OPCODE_END: u8 = 91;
 
 // Each local instruction once: its opcode and name, what it does with its registers, and what stands in
 // its last eight bytes.
@@ -61,7 +61,7 @@ macro_rules! locals {
 
 // Each system call once: its variant, opcode and name, what it does with its registers, what stands in its
 // last eight bytes, what an answer gives, the condition of making an object, whether it may want memory,
-// and what it does with each register of a list.
+// and what it does with each handle of a list.
 macro_rules! calls {
     ($use:ident $($name:ident)?) => {
         $use! {
@@ -100,6 +100,11 @@ macro_rules! calls {
                 Nothing, Status, None, false, None;
             EventpairCreate 87 "eventpair_create" [Writes Writes Writes]
                 Nothing, Makes(Eventpair), Some(NewEventpair), true, None;
+            ChanWriteSlots 88 "chan_write_slots" [Writes Names(Only(Channel), Rights::WRITE) Reads Reads Reads]
+                FromSlots, Status, None, true, Some(Field::Consumes(Any, Rights::TRANSFER));
+            ChanReadSlots 89 "chan_read_slots" [Writes Names(Only(Channel), Rights::READ) Reads Reads Writes Writes]
+                IntoSlots, Sizes, None, true, None;
+            HandleInfo 90 "handle_info" [Writes Names(Any, Rights::NONE) Writes Writes] Nothing, Tells, None, false, None;
         }
     };
 }
@@ -229,12 +234,13 @@ impl CallName {
 }
 
 impl Version {
-    /// Whether the version knows an opcode that has a row: version 1 knows neither `rep` nor `endrep`.
+    /// Whether the version knows an opcode that has a row: version 1 knows neither blocks nor the calls
+    /// behind `eventpair_create`.
     pub fn knows(self, opcode: u8) -> bool
         ensures { result ≡ is_known self opcode }
     {
         match self {
-            Version::One => opcode != 26 && opcode != 27,
+            Version::One => opcode != 26 && opcode != 27 && opcode < 88,
             Version::Two => true,
         }
     }

@@ -80,7 +80,8 @@ returns-then-not-keeps-clause-first c =
     let kept : c.in_ok-keeps.keeps ≡ are_blocks (marks_of c.in_ok-code.code.items) (map jump_of c.in_ok-code.code.items) =
     rw c.deref.ensures.value at c.in_ok-keeps.ensures in
     inr (first_fault-blocks bytes false e.fault no_start no_slot no_instr
-    (same_keep bytes _ _ c.in_ok-code.code.items e.version (c.in_ok-code.ensures.bytes ∙ code) c.in_ok-code.ensures.in_range false (sym c.if-not-keeps.true ∙ kept)))
+    (same_keep bytes _ _ c.in_ok-code.code.items e.version (c.in_ok-code.ensures.bytes ∙ code)
+    c.in_ok-code.ensures.in_range false (sym c.if-not-keeps.true ∙ kept)))
 
 pub returns-clause-found : goal.returns-clause-found
 returns-clause-found c =
@@ -117,7 +118,8 @@ returns-clause-first c =
     let kept : c.in_ok-keeps.keeps ≡ are_blocks (marks_of c.in_ok-code.code.items) (map jump_of c.in_ok-code.code.items) =
     rw c.deref.ensures.value at c.in_ok-keeps.ensures in
     first_fault-blocks bytes true e.fault no_start no_slot no_instr
-    (same_keep bytes _ _ c.in_ok-code.code.items e.version (c.in_ok-code.ensures.bytes ∙ code) c.in_ok-code.ensures.in_range true (sym c.if-not-keeps.false ∙ kept))
+    (same_keep bytes _ _ c.in_ok-code.code.items e.version (c.in_ok-code.ensures.bytes ∙ code)
+    c.in_ok-code.ensures.in_range true (sym c.if-not-keeps.false ∙ kept))
 
 pub invariant_of-result : goal.invariant_of-result
 invariant_of-result c = (returns-clause-found c).in_range

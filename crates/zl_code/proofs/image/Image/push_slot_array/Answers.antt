@@ -6,5 +6,6 @@ pub invariant_of-self-2 : goal.invariant_of-self-2
 invariant_of-self-2 c =
     let i = c.self.inside in
     rw (c.in_ok-push.ensures {u = tt}).items
-    (slots_in_range i.version i.raw i.memory i.budget (needs_value i.needs) i.starts.items i.slots.items i.code.items c.self.invariant c.args.array c.requires.in_range
+    (slots_in_range i.version i.raw i.memory i.budget (needs_value i.needs) i.starts.items i.slots.items i.code.items
+    c.self.invariant c.args.array c.requires.in_range
     (rw (← c.self.view_is) at c.requires.room))

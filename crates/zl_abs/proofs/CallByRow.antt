@@ -1,7 +1,7 @@
 -- The rule of a call by its row.
-use Rattle.zl_abs.proofs.Common.{AbsVal, CallInstr, Cause, Err, Image, List, Ok, Result, Row, State, Uses, [], and_then, ap, call_row, call_rule, call_rule_by}
-use Rattle.zl_abs.proofs.Common.{examined_all, finished, goes_on, if◌then◌else◌, is_written, passes, received_in, refl, state_after, stops, subst, sym, those}
-use Rattle.zl_abs.proofs.Common.{uses_by, uses_of, values_of, zip, ℕ, ◌++◌, ◌∙◌, ◌∷◌, ◌≡◌}
+use Rattle.zl_abs.proofs.Common.{AbsVal, CallInstr, Cause, Err, Image, List, None, Ok, Result, Row, Some, State, Uses, [], and_then, ap, array_fault}
+use Rattle.zl_abs.proofs.Common.{array_in, call_row, call_rule, call_rule_by, examined_all, finished, goes_on, if◌then◌else◌, is_written, passes, received_in}
+use Rattle.zl_abs.proofs.Common.{refl, state_after, stops, subst, sym, those, uses_by, uses_of, values_of, zip, ℕ, ◌++◌, ◌∙◌, ◌∷◌, ◌≡◌}
 use Rattle.zl_abs.specs.declared.value.AbsVal.TheVariants.{Word}
 
 -- what a call of the row uses, where its destinations among the registers get these values
@@ -24,7 +24,12 @@ module _ (bounds : List ℕ) (image : Image) (s : State) (i : CallInstr) (r : Ro
   stopped c e = sym (rule_by_row ∙ rw (sym e) refl)
 
   -- all are taken
-  pub ended : (values : List AbsVal) → Serve bounds s i values (call_row i.name)
-      → (t : State) (x : Result State Cause) → Ok t ≡ examined_all s (used_at i [] r).operands → x ≡ finished image s t (used_at i values r)
-      → and_then x (λ u. Ok (if goes_on i.name then passes u else stops)) ≡ call_rule bounds image i s
-  ended values serve t x e f = sym (rule_by_row ∙ rw (sym e, f, subst (Serve bounds s i values) (sym here) serve) refl)
+  module _ (t : State) (e : Ok t ≡ examined_all s (used_at i [] r).operands) where
+    -- the slot array is refused
+    pub array_stopped : (c : Cause) → Some c ≡ array_fault image (array_in r.ending i) → Err c ≡ call_rule bounds image i s
+    array_stopped c f = sym (rule_by_row ∙ rw (sym e, sym f) refl)
+
+    pub ended : None ≡ array_fault image (array_in r.ending i) → (values : List AbsVal) → Serve bounds s i values (call_row i.name)
+        → (x : Result State Cause) → x ≡ finished image s t (used_at i values r)
+        → and_then x (λ u. Ok (if goes_on i.name then passes u else stops)) ≡ call_rule bounds image i s
+    ended none values serve x f = sym (rule_by_row ∙ rw (sym e, sym none, f, subst (Serve bounds s i values) (sym here) serve) refl)

@@ -1,10 +1,11 @@
 -- The rules of the calls at a state and at one below it.
-use Rattle.zl_abs.proofs.Common.{ANY, AbsVal, Bool, CallInstr, Cause, Gives, Image, IsTrue, KNOWN_RIGHTS, Kind, List, None, Ok, Operand, Option, Rights}
-use Rattle.zl_abs.proofs.Common.{SAME_RIGHTS, Some, State, [], all_below, and_parts, answers, are_distinct, are_words, arith, below, bit_and, bits, bound_at}
-use Rattle.zl_abs.proofs.Common.{bound_of, call_row, call_rule, copies, eqb, examined, examined_all, examined_by, false, fault_of, finished, gives, goes_on}
-use Rattle.zl_abs.proofs.Common.{has_one, if◌then◌else◌, is_declared, is_has, is_result, is_some, is_written, kind_below, narrowed_value, nat_tests, not}
-use Rattle.zl_abs.proofs.Common.{number_at, passes, range_fits, refl, rights_of, slice_index, state_after, stops, sum_fits, taken_from, takes_any, those, true}
-use Rattle.zl_abs.proofs.Common.{uses, uses_of, value_at, values_by, values_of, with_all, with_value, within, zip, ℕ, ◌&&◌, ◌++◌, ◌+◌, ◌||◌, ◌∷◌, ◌≡◌, ◌≤◌}
+use Rattle.zl_abs.proofs.Common.{ANY, AbsVal, ArrayUse, Bool, CallInstr, Cause, Gives, Image, IsTrue, KNOWN_RIGHTS, Kind, List, None, Ok, Operand, Option}
+use Rattle.zl_abs.proofs.Common.{Rights, SAME_RIGHTS, SlotArray, Some, State, Uses, [], all_below, and_parts, answers, are_distinct, are_words, arith}
+use Rattle.zl_abs.proofs.Common.{array_fault, below, bit_and, bits, bound_at, bound_of, call_row, call_rule, copies, count_fits, eqb, examined, examined_all}
+use Rattle.zl_abs.proofs.Common.{examined_by, false, fault_of, finished, finished_unless, gives, goes_on, has_one, if◌then◌else◌, is_as_long, is_declared}
+use Rattle.zl_abs.proofs.Common.{is_has, is_result, is_some, is_written, kind_below, narrowed_value, nat_tests, not, number_at, passes, range_fits, refl}
+use Rattle.zl_abs.proofs.Common.{rights_of, sends, slice_get, slice_index, state_after, stops, sum_fits, taken_from, takes_any, those, true, uses, uses_of}
+use Rattle.zl_abs.proofs.Common.{value_at, values_by, values_of, with_all, with_value, within, zip, ℕ, ◌&&◌, ◌++◌, ◌+◌, ◌||◌, ◌∷◌, ◌≡◌, ◌≤◌}
 use Rattle.zl_abs.specs.declared.value.AbsVal.TheVariants.{Word, Has, KindOf, RightsOf}
 use Rattle.zl_abs.specs.declared.cause.Cause.TheVariants as cause
 use Rattle.zl_abs.proofs.Order.{below_refl, same_kind_is, within_trans, within_refl}
@@ -128,6 +129,24 @@ range_kept : (i : Image) (s t : State) (o : Option (ℕ × ℕ)) → IsBelow s t
 range_kept i s t None h e = refl
 range_kept i s t (Some x) h e = sum_kept i.memory _ _ _ _ (bound_below _ _ (value_below s t (x.0) h)) (bound_below _ _ (value_below s t (x.1) h)) e
 
+-- ---- slot arrays
+
+long_kept : (o : Option SlotArray) (a b : Option ℕ) → BoundBelow a b → is_as_long o b ≡ true → is_as_long o a ≡ true
+long_kept None a b h e = cc
+long_kept (Some x) a None h e = cc
+long_kept (Some x) None (Some n) h e = absurd h
+long_kept (Some x) (Some m) (Some n) h e = le-leb _ _ (let p = leb-true n x.length e in omega arith)
+
+count_kept : (i : Image) (s t : State) (x : ArrayUse) → IsBelow s t → count_fits i t x ≡ true → count_fits i s x ≡ true
+count_kept i s t (sends array count) h e = long_kept (slice_get i.slots array) _ _ (bound_below _ _ (value_below s t count h)) e
+count_kept i s t _ h e = refl
+
+there_kept : (i : Image) (s t : State) (range : Option (ℕ × ℕ)) (array : ArrayUse) → IsBelow s t
+    → (range_fits i t range && count_fits i t array) ≡ true → (range_fits i s range && count_fits i s array) ≡ true
+there_kept i s t range array h e =
+    let p = and_parts (range_fits i t range) (count_fits i t array) e in
+    and_from _ _ (range_kept i s t range h p.0) (count_kept i s t array h p.1)
+
 -- ---- destinations
 
 -- the same registers with values below
@@ -172,20 +191,29 @@ answers_below s t xs ys h k =
 
 -- ---- the rule
 
-finished_below : (i : Image) (s t u v : State) (operands : List Operand) (words : List ℕ) (range : Option (ℕ × ℕ)) (condition : Option Condition)
-    (xs ys : List (ℕ × AbsVal)) → IsBelow s t → IsBelow u v → ResultsBelow xs ys
-    → Lowers IsBelow (finished i s u (uses operands words range condition xs)) (finished i t v (uses operands words range condition ys))
-finished_below i s t u v operands words range condition xs ys h k l =
-    lowers_unless IsBelow (not (are_words s words)) (not (are_words t words)) _ _ _ _ (not_kept _ _ (words_kept s t words h))
-    (lowers_unless IsBelow (not (range_fits i s range)) (not (range_fits i t range)) _ _ _ _ (not_kept _ _ (range_kept i s t range h))
-    (lowers_unless IsBelow (not (is_declared i condition)) (not (is_declared i condition)) _ _ _ _ (λ e. e) (answers_below u v xs ys k l)))
+module _ (i : Image) (s t : State) (operands : List Operand) (words : List ℕ) (range : Option (ℕ × ℕ)) (array : ArrayUse) (condition : Option Condition)
+    (xs ys : List (ℕ × AbsVal)) (h : IsBelow s t) (l : ResultsBelow xs ys) where
+  abbrev lower : Uses
+  lower = uses operands words range array condition xs
 
-state_after_below : (i : Image) (s t : State) (operands : List Operand) (words : List ℕ) (range : Option (ℕ × ℕ)) (condition : Option Condition)
-    (xs ys : List (ℕ × AbsVal)) → IsBelow s t → ResultsBelow xs ys
-    → Lowers IsBelow (state_after i s (uses operands words range condition xs)) (state_after i t (uses operands words range condition ys))
-state_after_below i s t operands words range condition xs ys h l =
-    lowers_then IsBelow IsBelow (examined_all s operands) (examined_all t operands) _ _ (examined_all_below operands s t h)
-    (λ u v k. finished_below i s t u v operands words range condition xs ys h k l)
+  abbrev upper : Uses
+  upper = uses operands words range array condition ys
+
+  finished_below : (u v : State) → IsBelow u v → Lowers IsBelow (finished i s u lower) (finished i t v upper)
+  finished_below u v k =
+      lowers_unless IsBelow (not (are_words s words)) (not (are_words t words)) _ _ _ _ (not_kept _ _ (words_kept s t words h))
+      (lowers_unless IsBelow (not (range_fits i s range && count_fits i s array)) (not (range_fits i t range && count_fits i t array)) _ _ _ _
+      (not_kept _ _ (there_kept i s t range array h))
+      (lowers_unless IsBelow (not (is_declared i condition)) (not (is_declared i condition)) _ _ _ _ (λ e. e) (answers_below u v xs ys k l)))
+
+  unless_below : (o : Option Cause) (u v : State) → IsBelow u v → Lowers IsBelow (finished_unless o i s u lower) (finished_unless o i t v upper)
+  unless_below (Some c) u v k = tt
+  unless_below None u v k = finished_below u v k
+
+  state_after_below : Lowers IsBelow (state_after i s lower) (state_after i t upper)
+  state_after_below =
+      lowers_then IsBelow IsBelow (examined_all s operands) (examined_all t operands) _ _ (examined_all_below operands s t h)
+      (unless_below (array_fault i array))
 
 -- ---- what an answer gives
 
@@ -205,13 +233,13 @@ one_below : (v w : AbsVal) → IsTrue (below v w) → IsTrue (all_below (v ∷ [
 unfolding all_below
 one_below v w h = and_from _ _ h refl
 
-given_below : (bounds : List ℕ) (g : Gives) (v w : AbsVal) (number : ℕ) → IsTrue (below v w)
-    → IsTrue (all_below (values_by bounds g v number) (values_by bounds g w number))
-given_below bounds copies v w number h = one_below _ _ (narrowed_below v w number h)
-given_below bounds _ v w number h = all_below_refl _
+given_below : (bounds : List ℕ) (g : Gives) (register : ℕ) (v w : AbsVal) (number : ℕ) → IsTrue (below v w)
+    → IsTrue (all_below (values_by bounds g register v number) (values_by bounds g register w number))
+given_below bounds copies register v w number h = one_below _ _ (narrowed_below v w number h)
+given_below bounds _ register v w number h = all_below_refl _
 
 values_below : (bounds : List ℕ) (s t : State) (c : CallInstr) → IsBelow s t → IsTrue (all_below (values_of bounds s c) (values_of bounds t c))
-values_below bounds s t c h = given_below bounds (gives c.name) _ _ (number_at c.last 0 4) (value_below s t (slice_index c.registers 1) h)
+values_below bounds s t c h = given_below bounds (gives c.name) _ _ _ (number_at c.last 0 4) (value_below s t (slice_index c.registers 1) h)
 
 same_below : (xs : List (ℕ × AbsVal)) → ResultsBelow xs xs
 same_below [] = tt
@@ -235,6 +263,6 @@ way_on false u v h = (tt, tt)
 pub call_below : (bounds : List ℕ) (i : Image) (c : CallInstr) (s t : State) → IsBelow s t → Lowers WaysBelow (call_rule bounds i c s) (call_rule bounds i c t)
 unfolding call_rule uses_of
 call_below bounds i c s t h =
-    lowers_then IsBelow WaysBelow (state_after i s (uses_of bounds s c)) (state_after i t (uses_of bounds t c)) _ _ (state_after_below i s t _ _ _ _ _ _ h
+    lowers_then IsBelow WaysBelow (state_after i s (uses_of bounds s c)) (state_after i t (uses_of bounds t c)) _ _ (state_after_below i s t _ _ _ _ _ _ _ h
     (zip_below (those is_written (call_row c.name).fields 0 c.registers) _ _ _ (status_first _ _ (values_below bounds s t c h))))
     (λ u v l. way_on (goes_on c.name) u v l)

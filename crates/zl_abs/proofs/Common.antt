@@ -15,10 +15,11 @@ pub use Rattle.std.specs.Option.{option_map}
 pub use Rattle.std.specs.Prelude.{bit_and, bit_or, nat_lt, slice_get, slice_set, ◌/◌, ◌^◌}
 pub use Rattle.zl_abs.specs.Bounds.{RoundAlike, bounds_by, bounds_of, imm_bounds, plain_bounds, rounded}
 unfoldable pub use Rattle.zl_abs.specs.Bounds.{imm_of, least_from}
-pub use Rattle.zl_abs.specs.CallRules.{Gives, Uses, answers, are_words, call_rule_by, copies, examined, examined_by, fault_of, finished, gives, goes_on}
-pub use Rattle.zl_abs.specs.CallRules.{has_one, is_declared, is_result, is_word, makes, narrowed_value, new, nothing, operands_at, operands_listed, packet}
-pub use Rattle.zl_abs.specs.CallRules.{packet_values, range_fits, received_in, signals, sizes, state_after, stops, sum_fits, taken_from, takes_any}
-pub use Rattle.zl_abs.specs.CallRules.{triple_results, uses, uses_by, values_by, values_of}
+pub use Rattle.zl_abs.specs.CallRules.{ArrayUse, Gives, Uses, answers, are_words, array_fault, array_in, call_rule_by, copies, count_fits, examined}
+pub use Rattle.zl_abs.specs.CallRules.{examined_by, fault_of, finished, finished_unless, gives, goes_on, has_one, is_as_long, is_declared, is_result, is_word}
+pub use Rattle.zl_abs.specs.CallRules.{makes, narrowed_value, new, nothing, operands_at, operands_listed, packet, packet_values, range_fits, received_in}
+pub use Rattle.zl_abs.specs.CallRules.{sends, signals, sizes, state_after, stops, sum_fits, taken_from, takes_any, tells, triple_results, uses, uses_by}
+pub use Rattle.zl_abs.specs.CallRules.{values_by, values_of}
 unfoldable pub use Rattle.zl_abs.specs.CallRules.{are_distinct, call_rule, examined_all, uses_of}
 pub use Rattle.zl_abs.specs.Changes.{left_by}
 pub use Rattle.zl_abs.specs.Fine.{AllFine, Fits, IsFine}

@@ -1,14 +1,15 @@
 -- The rule of each instruction leads from a fine state to fine states.
-use Rattle.zl_abs.proofs.Common.{ANY, AbsVal, AllFine, Bool, CallInstr, Cause, Edge, Err, Fits, Gives, IfOk, IfSome, Image, Instr, IsFine, IsTrue, KNOWN_RIGHTS}
-use Rattle.zl_abs.proofs.Common.{Kind, List, LocalInstr, None, Ok, Operand, Option, Result, SAME_RIGHTS, SlotArray, Some, State, Uses, Ways, [], and_le_r}
-use Rattle.zl_abs.proofs.Common.{and_parts, and_then, are_distinct, are_words, arith, bit_and, bits, call_reading, call_rule, capped, computes, copies, edge_to}
-use Rattle.zl_abs.proofs.Common.{edges, eqb, examined, examined_all, examined_by, false, fault_of, gives, goes_on, has_one, if◌then◌else◌, in_memory, instr_at}
-use Rattle.zl_abs.proofs.Common.{is_call_in_range, is_declared, is_has, is_in_range, is_instr_in_range, is_local_in_range, is_room, is_slot_in_range}
-use Rattle.zl_abs.proofs.Common.{least_from, leb, length, list_all, loads, local_parts, local_rule, ltb, makes, map, may_move, moved, names_registers}
-use Rattle.zl_abs.proofs.Common.{narrowed_value, nat_tests, new, not, nothing, number_at, packet, packet_values, passes, range_fits, ranges, received_in, refl}
-use Rattle.zl_abs.proofs.Common.{rights_of, rounded, rule_by, rule_with, signals, sizes, slice_get, slice_index, slot_fault, slot_value, state_after, stops}
-use Rattle.zl_abs.proofs.Common.{stores, suc, swaps_by, swaps_in, taken_from, takes, target_of, triple_results, true, unless, uses_of, value_at, values_by}
-use Rattle.zl_abs.proofs.Common.{values_of, whole, with_all, with_value, word_at, writes, zero, zip, ℕ, ◌&&◌, ◌*◌, ◌++◌, ◌+◌, ◌<◌, ◌∷◌, ◌≡◌, ◌≤◌}
+use Rattle.zl_abs.proofs.Common.{ANY, AbsVal, AllFine, Bool, CallInstr, Cause, Decides-eqb, Edge, Err, Fits, Gives, IfOk, IfSome, Image, Instr, IsFine}
+use Rattle.zl_abs.proofs.Common.{IsTrue, KNOWN_RIGHTS, Kind, List, LocalInstr, None, Ok, Operand, Option, Result, SAME_RIGHTS, SlotArray, Some, State, Uses}
+use Rattle.zl_abs.proofs.Common.{Ways, [], and_le_r, and_parts, and_then, are_distinct, are_words, arith, array_fault, bit_and, bits, call_reading, call_row}
+use Rattle.zl_abs.proofs.Common.{call_rule, capped, computes, copies, count_fits, edge_to, edges, eqb, examined, examined_all, examined_by, false, fault_of}
+use Rattle.zl_abs.proofs.Common.{finished_unless, gives, goes_on, has_one, if◌then◌else◌, in_memory, instr_at, is_call_in_range, is_declared, is_has}
+use Rattle.zl_abs.proofs.Common.{is_in_range, is_instr_in_range, is_local_in_range, is_room, is_slot_in_range, is_written, least_from, leb, length, list_all}
+use Rattle.zl_abs.proofs.Common.{loads, local_parts, local_rule, ltb, makes, map, may_move, moved, names_registers, narrowed_value, nat_lt, nat_tests, new}
+use Rattle.zl_abs.proofs.Common.{not, nothing, number_at, packet, packet_values, passes, range_fits, ranges, received_in, refl, rights_of, rounded, rule_by}
+use Rattle.zl_abs.proofs.Common.{rule_with, signals, sizes, slice_get, slice_index, slot_fault, slot_value, state_after, stops, stores, subst, suc, swaps_by}
+use Rattle.zl_abs.proofs.Common.{swaps_in, taken_from, takes, target_of, tells, those, triple_results, true, unless, uses_of, value_at, values_by, values_of}
+use Rattle.zl_abs.proofs.Common.{whole, with_all, with_value, word_at, writes, zero, zip, ℕ, ◌&&◌, ◌*◌, ◌++◌, ◌+◌, ◌<◌, ◌∷◌, ◌≡◌, ◌≤◌}
 use Rattle.zl_rights.specs.declared.kind.Kind.TheVariants as kind
 use Rattle.zl_code.specs.declared.instr.Instr.TheVariants as instr
 use Rattle.std.specs.Bool.{then_some}
@@ -21,8 +22,12 @@ use Rattle.zl_abs.specs.declared.value.AbsVal.TheVariants.{Word, Has, KindOf, Ri
 use Rattle.zl_abs.specs.declared.cause.Cause.TheVariants as cause
 use Rattle.zl_abs.proofs.FineStates.{Suits, Named, is_plain, named_self, named_there, plain_suits, fine_with, fine_moved, rights_fit}
 use Rattle.zl_abs.proofs.FineTests.{FineWays, then_fine, IsBound, word_fine, zero_fine, equal_fine, below_fine, has_fine}
-use Rattle.zl_code.proofs.Common.{not-false}
-use Rattle.std.proofs.lemmas.Bool.{cond_both}
+use Rattle.zl_code.proofs.Common.{not-false, or_parts}
+use Rattle.zl_code.specs.Refusals.{needs}
+use Rattle.zl_code.specs.Spells.{are_registers}
+use Rattle.zl_code.specs.declared.history.CallName.{CallName}
+use Rattle.zl_code.specs.declared.history.CallName.TheVariants as call
+use Rattle.std.proofs.lemmas.Bool.{cond_both, ltb-true}
 
 if_fine : {B : Type 0} (Q : B → Type 0) (t : Bool) (x : Result B Cause) (c : Cause) → IfOk x Q → IfOk (if t then x else Err c) Q
 if_fine Q true x c h = h
@@ -161,12 +166,18 @@ examined_all_fine (o ∷ os) s h = then_fine IsFine IsFine (examined s o) _ (exa
 abbrev CanGet : List (ℕ × AbsVal) → Type 0
 CanGet results = (t : State) → IsFine t → IsFine (with_all t results)
 
-after_fine : (i : Image) (s : State) (u : Uses) → IsFine s → CanGet u.results → IfOk (state_after i s u) IsFine
-after_fine i s u h k =
-    then_fine IsFine IsFine (examined_all s u.operands) _ (examined_all_fine u.operands s h) (λ t g. unless_fine IsFine (not (are_words s u.words)) _ _ (λ _.
-    unless_fine IsFine (not (range_fits i s u.range)) _ _ (λ _. unless_fine IsFine (not (is_declared i u.condition)) _ _ (λ _.
-    unless_fine IsFine (not (are_distinct u.results)) _ _ (λ _.
-    unless_fine IsFine (has_one t u.results) (Ok (with_all t u.results)) cause.Leak (λ _. k t g))))))
+-- what the examined operands leave has P, and a state that has it stays fine where no destination has a handle
+module _ (P : State → Type 0) (i : Image) (s : State) (u : Uses)
+    (k : (t : State) → P t → has_one t u.results ≡ false → IsFine (with_all t u.results)) where
+  ends_fine : (t : State) → P t → (o : Option Cause) → IfOk (finished_unless o i s t u) IsFine
+  ends_fine t g (Some c) = tt
+  ends_fine t g None =
+      unless_fine IsFine (not (are_words s u.words)) _ _ (λ _. unless_fine IsFine (not (range_fits i s u.range && count_fits i s u.array)) _ _ (λ _.
+      unless_fine IsFine (not (is_declared i u.condition)) _ _ (λ _. unless_fine IsFine (not (are_distinct u.results)) _ _ (λ _.
+      unless_fine IsFine (has_one t u.results) (Ok (with_all t u.results)) cause.Leak (λ e. k t g e)))))
+
+  after_fine : IfOk (examined_all s u.operands) P → IfOk (state_after i s u) IsFine
+  after_fine h = then_fine P IsFine (examined_all s u.operands) _ h (λ t g. ends_fine t g (array_fault i u.array))
 
 -- values that are no tags
 abbrev AreValues : List AbsVal → Type 0
@@ -220,24 +231,105 @@ all_new : (ks : List Kind) → AreValues (map new ks)
 all_new [] = tt
 all_new (k ∷ ks) = (refl, new_value k, all_new ks)
 
-values_fit : (bounds : List ℕ) (g : Gives) (have : AbsVal) (number : ℕ) → Fits have → AreValues (values_by bounds g have number)
-values_fit bounds nothing have number h = tt
-values_fit bounds (makes kinds) have number h = all_new kinds
-values_fit bounds copies have number h = narrowed_values have number h
-values_fit bounds sizes have number h = (refl, omega arith, (refl, omega arith, tt))
-values_fit bounds signals have number h = (refl, omega arith, tt)
-values_fit bounds packet have number h = packet_fits bounds
+-- kind and rights of a handle are told
+abbrev is_told : Gives → Bool
+is_told tells = true
+is_told _ = false
+
+values_fit : (bounds : List ℕ) (g : Gives) (register : ℕ) (have : AbsVal) (number : ℕ) → is_told g ≡ false → Fits have
+    → AreValues (values_by bounds g register have number)
+values_fit bounds nothing register have number e h = tt
+values_fit bounds (makes kinds) register have number e h = all_new kinds
+values_fit bounds copies register have number e h = narrowed_values have number h
+values_fit bounds sizes register have number e h = (refl, omega arith, (refl, omega arith, tt))
+values_fit bounds signals register have number e h = (refl, omega arith, tt)
+values_fit bounds packet register have number e h = packet_fits bounds
+values_fit bounds tells register have number e h = cc
+
+-- ---- what is told of a handle
+
+-- an operand that may not be 0 has a handle
+has_it : (r : ℕ) (v : AbsVal) → fault_of (needs r [] 0) v ≡ None → is_has v ≡ true
+has_it r (Has _ _ _) e = refl
+has_it r _ e = cc
+
+-- the register has a handle in a fine state
+abbrev HasIt : ℕ → State → Type 0
+HasIt r t = IsFine t × (is_has (value_at t r) ≡ true)
+
+told_examined : (s : State) (r : ℕ) → IsFine s → IfOk (examined_all s (needs r [] 0 ∷ [])) (HasIt r)
+unfolding examined_all
+told_examined s r h = by (fault_of (needs r [] 0) (value_at s r)) refl
+  where
+    by : (o : Option Cause) → fault_of (needs r [] 0) (value_at s r) ≡ o → IfOk (and_then (examined_by s (needs r [] 0) o) (λ t. Ok t)) (HasIt r)
+    by (Some c) e = tt
+    by None e = (h, has_it r (value_at s r) e)
+
+has_named : (v : AbsVal) → is_has v ≡ true → Named v
+has_named (Has _ _ _) h = refl
+has_named _ h = cc
+
+-- where one register has a handle and the other has none, they aren't the same
+not_same : (t : State) (r q : ℕ) → is_has (value_at t r) ≡ true → is_has (value_at t q) ≡ false → eqb r q ≡ false
+not_same t r q h e = by (eqb r q) refl
+  where
+    by : (b : Bool) → eqb r q ≡ b → b ≡ false
+    by false p = refl
+    by true p = let same : r ≡ q = (Decides-eqb r q).0 p in let z : is_has (value_at t q) ≡ true = subst (λ (x : ℕ). is_has (value_at t x) ≡ true) same h in cc
+
+told_fine : (t : State) (r status k q : ℕ) → HasIt r t → r < 32 → has_one t ((status, Word 30) ∷ (k, KindOf r) ∷ (q, RightsOf r) ∷ []) ≡ false
+    → IsFine (with_all t ((status, Word 30) ∷ (k, KindOf r) ∷ (q, RightsOf r) ∷ []))
+unfolding with_all
+told_fine t r status k q h less e =
+    let f = or_parts (is_has (value_at t status)) _ e in
+    let g = or_parts (is_has (value_at t k)) _ f.1 in
+    let u = with_value t status (Word 30) in
+    let a = named_there t status r (Word 30) (not_same t r status h.1 f.0) (has_named (value_at t r) h.1) in
+    let v = with_value u k (KindOf r) in
+    let b = named_there u k r (KindOf r) (not_same t r k h.1 g.0) a in
+    fine_with v q (RightsOf r) (fine_with u k (KindOf r) (fine_with t status (Word 30) h.0 (omega arith, refl)) (less, a)) (less, b)
+
+register_fits : (rs : List ℕ) (n : ℕ) → are_registers rs ≡ true → slice_index rs n < 32
+register_fits [] n h = omega arith
+register_fits (r ∷ rs) zero h = ltb-true r 32 (and_parts (nat_lt r 32) (are_registers rs) h).0
+register_fits (r ∷ rs) (suc n) h = register_fits rs n (and_parts (nat_lt r 32) (are_registers rs) h).1
+
+-- ---- the rule of a call
 
 way_fine : (on : Bool) (s : State) → IsFine s → FineWays (if on then passes s else stops)
 way_fine true s h = (tt, h)
 way_fine false s h = (tt, tt)
 
+-- a call that tells of no handle
+untold_fine : (bounds : List ℕ) (i : Image) (s : State) (c : CallInstr) → is_told (gives c.name) ≡ false
+    → names_registers (call_row c.name).ending (call_reading c) ≡ true → IsFine s → IfOk (state_after i s (uses_of bounds s c)) IsFine
+unfolding uses_of
+untold_fine bounds i s c e r h =
+    let places = those is_written (call_row c.name).fields 0 c.registers in
+    let fit = values_fit bounds (gives c.name) _ _ (number_at c.last 0 4) e (h.fits (slice_index c.registers 1)) in
+    after_fine IsFine i s (uses_of bounds s c)
+    (λ t k _. zip_fine places (Word 30 ∷ values_of bounds s c) _ (refl, omega arith, fit) (received_fine (call_row c.name).ending c r) t k)
+    (examined_all_fine _ s h)
+
+-- the call of this name with these registers and last eight bytes
+abbrev called : CallName → List ℕ → List ℕ → CallInstr
+called n rs last = record { name = n; registers = rs; last = last }
+
+called_fine : (bounds : List ℕ) (i : Image) (s : State) (n : CallName) (rs last : List ℕ) → are_registers rs ≡ true
+    → names_registers (call_row n).ending (call_reading (called n rs last)) ≡ true → IsFine s
+    → IfOk (state_after i s (uses_of bounds s (called n rs last))) IsFine
+unfolding uses_of
+called_fine bounds i s call.HandleInfo rs last g r h =
+    let b = slice_index rs 1 in
+    after_fine (HasIt b) i s (uses_of bounds s (called call.HandleInfo rs last))
+    (λ t k e. told_fine t b (slice_index rs 0) (slice_index rs 2) (slice_index rs 3) k (register_fits rs 1 g) e) (told_examined s b h)
+called_fine bounds i s n rs last g r h = untold_fine bounds i s (called n rs last) refl r h
+
 pub call_fine : (bounds : List ℕ) (i : Image) (c : CallInstr) (s : State) → is_call_in_range c ≡ true → IsFine s → IfOk (call_rule bounds i c s) FineWays
-unfolding call_rule uses_of
+unfolding call_rule
 call_fine bounds i c s r h =
-    let fit = values_fit bounds (gives c.name) (value_at s (slice_index c.registers 1)) (number_at c.last 0 4) (h.fits (slice_index c.registers 1)) in
-    then_fine IsFine FineWays (state_after i s (uses_of bounds s c)) _
-    (after_fine i s (uses_of bounds s c) h (zip_fine _ (Word 30 ∷ values_of bounds s c) _ (refl, omega arith, fit) (received_fine _ c (whole c r).named)))
+    let w = whole c r in
+    then_fine IsFine FineWays (state_after i s (uses_of bounds s c)) _ (called_fine bounds i s c.name c.registers c.last w.registers w.named h)
     (way_fine (goes_on c.name))
 
 -- ---- the edges

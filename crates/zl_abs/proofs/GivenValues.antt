@@ -14,8 +14,8 @@ unless_alone values column.Status = Word 30 ∷ replicate 6 (Word 30)
 unless_alone values _ = values
 
 -- behind the status such a call has no destination
-pub status_alone : (n : CallName) (rs bounds : List ℕ) (have : AbsVal) (number : ℕ)
-    → zip (those is_written (call_row n).fields 0 rs) (unless_alone (Word 30 ∷ values_by bounds (gives n) have number) (given n))
-    ≡ zip (those is_written (call_row n).fields 0 rs) (Word 30 ∷ values_by bounds (gives n) have number)
-status_alone call.Close rs bounds have number = refl
-status_alone _ rs bounds have number = refl
+pub status_alone : (n : CallName) (rs bounds : List ℕ) (register : ℕ) (have : AbsVal) (number : ℕ)
+    → zip (those is_written (call_row n).fields 0 rs) (unless_alone (Word 30 ∷ values_by bounds (gives n) register have number) (given n))
+    ≡ zip (those is_written (call_row n).fields 0 rs) (Word 30 ∷ values_by bounds (gives n) register have number)
+status_alone call.Close rs bounds register have number = refl
+status_alone _ rs bounds register have number = refl

@@ -19,15 +19,15 @@ module _ (bs cs : List ℕ) (alike : RoundAlike bs cs) (i : Image) (s : State) w
   same_local (local.ShiftRight a b imm) = λ k. and_then (word_at s b) (λ m. same_computes a (shifted m imm) k)
   same_local x = refl
 
-  same_values : (g : Gives) (have : AbsVal) (number : ℕ) → values_by bs g have number ≡ values_by cs g have number
-  same_values packet have number = ap (λ (m : ℕ). Word ANY ∷ Word m ∷ Word ANY ∷ Word ANY ∷ []) (alike 1)
-  same_values g have number = refl
+  same_values : (g : Gives) (register : ℕ) (have : AbsVal) (number : ℕ) → values_by bs g register have number ≡ values_by cs g register have number
+  same_values packet register have number = ap (λ (m : ℕ). Word ANY ∷ Word m ∷ Word ANY ∷ Word ANY ∷ []) (alike 1)
+  same_values g register have number = refl
 
   same_call : (c : CallInstr) → call_rule bs i c s ≡ call_rule cs i c s
   unfolding call_rule uses_of
   same_call c =
       ap (λ vs. call_rule_by i s (goes_on c.name) (uses_by (call_row c.name) c vs))
-      (same_values (gives c.name) (value_at s (slice_index c.registers 1)) (number_at c.last 0 4))
+      (same_values (gives c.name) (slice_index c.registers 1) (value_at s (slice_index c.registers 1)) (number_at c.last 0 4))
 
   same_by : (n : ℕ) (o : Option Instr) → rule_by bs i n s o ≡ rule_by cs i n s o
   same_by n None = refl

@@ -1,6 +1,6 @@
 -- Worked programs, accepted and refused, by computation: one at least for each cause.
 use Rattle.zl_code.specs.Image.{blank_image}
-use Rattle.zl_abs.proofs.Common.{Image, Instr, List, LocalInstr, SlotArray, Some, Start, [], refl, rights_of, ℕ, ◌∷◌, ◌≡◌}
+use Rattle.zl_abs.proofs.Common.{Image, Instr, List, LocalInstr, None, SlotArray, Some, Start, [], refl, rights_of, ℕ, ◌∷◌, ◌≡◌}
 use Rattle.zl_rights.specs.declared.kind.Kind.TheVariants as kind
 use Rattle.zl_rights.specs.declared.policy.Condition.{Condition}
 use Rattle.zl_rights.specs.declared.policy.Condition.TheVariants as condition
@@ -229,3 +229,60 @@ tested_late : verdict (image 0 (condition.NewEvent ∷ []) (record { kind = Some
     ∷ receive (2 ∷ 13 ∷ 10 ∷ 10 ∷ 11 ∷ 12 ∷ 20 ∷ []) 0 ∷ exit 2 ∷ [])) ≡ Refused 9 cause.WrongKind
 unfolding searching
 tested_late = refl
+
+-- ---- calls over slot arrays
+
+-- four places for handles of any kind with these rights
+abbrev places : ℕ → SlotArray
+places rights = record { kind = None; length = 4; rights = rights_of rights }
+
+-- a program that starts with an end of a channel, and has a memory of eight bytes and this slot array
+abbrev with_slots : SlotArray → List Instr → Image
+with_slots slots code = record (image 8 [] (record { kind = Some kind.Channel; rights = rights_of 12 } ∷ []) (slots ∷ []) code) { version = version.Two }
+
+-- chan_write_slots with the address and the count in these registers, from the slot array of this number
+abbrev send_slots : ℕ → ℕ → ℕ → Instr
+send_slots address count array = instr.Call (called name.ChanWriteSlots (2 ∷ 0 ∷ address ∷ 5 ∷ count ∷ []) array)
+
+slots_sent :
+    (verdict (with_slots (places 2) (own (local.Const 6 4) ∷ send_slots 5 6 0 ∷ exit 2 ∷ [])) ≡ Typed)
+    × (verdict (with_slots (places 2) (own (local.Const 6 5) ∷ send_slots 5 6 0 ∷ exit 2 ∷ [])) ≡ Refused 1 cause.MemoryRange)
+    × (verdict (with_slots (places 2) (own (local.Const 6 9) ∷ send_slots 6 5 0 ∷ exit 2 ∷ [])) ≡ Refused 1 cause.MemoryRange)
+    × (verdict (with_slots (places 2) (send_slots 5 0 0 ∷ exit 2 ∷ [])) ≡ Refused 0 cause.NotWord)
+    × (verdict (with_slots (places 2) (send_slots 5 0 1 ∷ exit 2 ∷ [])) ≡ Refused 0 cause.IllegalOp)
+    × (verdict (with_slots (places 12) (send_slots 5 0 0 ∷ exit 2 ∷ [])) ≡ Refused 0 cause.LacksRight)
+unfolding searching
+slots_sent = (refl, refl, refl, refl, refl, refl)
+
+-- chan_read_slots with the room in this register, into the slot array of this number
+abbrev receive_slots : ℕ → ℕ → Instr
+receive_slots room array = instr.Call (called name.ChanReadSlots (2 ∷ 0 ∷ 5 ∷ room ∷ 7 ∷ 8 ∷ []) array)
+
+slots_received :
+    (verdict (with_slots (places 0) (own (local.Const 6 8) ∷ receive_slots 6 0 ∷ exit 7 ∷ [])) ≡ Typed)
+    × (verdict (with_slots (places 0) (own (local.Const 6 9) ∷ receive_slots 6 0 ∷ exit 7 ∷ [])) ≡ Refused 1 cause.MemoryRange)
+    × (verdict (with_slots (places 0) (receive_slots 0 1 ∷ exit 7 ∷ [])) ≡ Refused 0 cause.IllegalOp)
+    × (verdict (with_slots (places 2) (receive_slots 0 0 ∷ exit 7 ∷ [])) ≡ Refused 0 cause.LacksRight)
+    × (verdict (with_slots (record (places 0) { kind = Some kind.Event }) (receive_slots 0 0 ∷ exit 7 ∷ [])) ≡ Refused 0 cause.WrongKind)
+unfolding searching
+slots_received = (refl, refl, refl, refl, refl)
+
+-- ---- what is told of a handle
+
+-- a program that starts with a handle of which it declares nothing, is told of one, and does this behind
+abbrev told : List ℕ → List Instr → Image
+told registers behind =
+    record (image 8 [] (record { kind = None; rights = rights_of 0 } ∷ []) [] (ask name.HandleInfo registers ∷ behind)) { version = version.Two }
+
+handle_told :
+    (verdict (told (2 ∷ 0 ∷ 3 ∷ 4 ∷ [])
+    (own (local.JumpNotEqual 3 4 4) ∷ own (local.JumpHasNot 4 4 4) ∷ receive (2 ∷ 0 ∷ 5 ∷ 5 ∷ 6 ∷ 7 ∷ 20 ∷ []) 0 ∷ exit 2 ∷ [])) ≡ Typed)
+    × (verdict (told (2 ∷ 0 ∷ 3 ∷ 4 ∷ []) (own (local.JumpHasNot 4 4 3) ∷ receive (2 ∷ 0 ∷ 5 ∷ 5 ∷ 6 ∷ 7 ∷ 20 ∷ []) 0 ∷ exit 2 ∷ []))
+    ≡ Refused 2 cause.WrongKind)
+    × (verdict (told (2 ∷ 0 ∷ 3 ∷ 4 ∷ []) (own (local.JumpNotEqual 3 4 3) ∷ receive (2 ∷ 0 ∷ 5 ∷ 5 ∷ 6 ∷ 7 ∷ 20 ∷ []) 0 ∷ exit 2 ∷ []))
+    ≡ Refused 2 cause.LacksRight)
+    × (verdict (told (2 ∷ 5 ∷ 3 ∷ 4 ∷ []) (exit 2 ∷ [])) ≡ Refused 0 cause.NotLive)
+    × (verdict (told (2 ∷ 0 ∷ 3 ∷ 3 ∷ []) (exit 2 ∷ [])) ≡ Refused 0 cause.IllegalOp)
+    × (verdict (told (2 ∷ 0 ∷ 0 ∷ 4 ∷ []) (exit 2 ∷ [])) ≡ Refused 0 cause.Leak)
+unfolding searching
+handle_told = (refl, refl, refl, refl, refl, refl)

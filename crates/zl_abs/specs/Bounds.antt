@@ -14,6 +14,8 @@ abbrev pub imm_by : Ending → ℕ → Option ℕ
 imm_by ending.Number imm = Some imm
 imm_by ending.Both imm = Some imm
 imm_by ending.Room imm = Some imm
+imm_by ending.FromSlots imm = Some imm
+imm_by ending.IntoSlots imm = Some imm
 imm_by _ imm = None
 
 -- that of an instruction of the row, if it has one

@@ -1,14 +1,15 @@
 -- The rule of the system calls: what each reads and writes by its row of the table, and what its answer gives.
-use Rattle.std.specs.Prelude.{ℕ, zero, suc, Bool, true, false, ◌&&◌, not, ◌==◌, nat_le, ◌+◌, List, [], ◌∷◌, ◌++◌, length, map, zip, Option, Some, None, Result, Ok, Err, if◌then◌else◌, is_some, slice_index, bit_and}
+use Rattle.std.specs.Prelude.{ℕ, zero, suc, Bool, true, false, ◌&&◌, not, ◌==◌, nat_le, ◌+◌, List, [], ◌∷◌, ◌++◌, length, map, zip, Option, Some, None, Result, Ok, Err, if◌then◌else◌, is_some, slice_get, slice_index, bit_and}
 use Rattle.std.specs.List.{list_all, list_any}
 use Rattle.zl_rights.specs.declared.kind.Kind.{Kind}
 use Rattle.zl_rights.specs.declared.kind.Kind.TheVariants as kind
 use Rattle.zl_rights.specs.declared.rights.Rights.{Rights}
 use Rattle.zl_rights.specs.declared.policy.Condition.{Condition}
-use Rattle.zl_rights.specs.Numbers.{bits, rights_of, within, takes as takes_kind, default_rights_of, KNOWN_RIGHTS, SAME_RIGHTS}
+use Rattle.zl_rights.specs.Numbers.{bits, rights_of, within, takes as takes_kind, default_rights_of, KNOWN_RIGHTS, TRANSFER, SAME_RIGHTS}
 use Rattle.zl_code.specs.declared.instr.CallInstr.{CallInstr}
 use Rattle.zl_code.specs.declared.history.CallName.{CallName}
 use Rattle.zl_code.specs.declared.history.CallName.TheVariants as call
+use Rattle.zl_code.specs.declared.image.SlotArray.{SlotArray}
 use Rattle.zl_code.specs.declared.layout.Ending.{Ending}
 use Rattle.zl_code.specs.declared.layout.Ending.TheVariants as ending
 use Rattle.zl_code.specs.Image.{Image, is_among}
@@ -78,6 +79,45 @@ abbrev pub range_fits : Image → State → Option (ℕ × ℕ) → Bool
 range_fits i s None = true
 range_fits i s (Some x) = sum_fits i.memory (bound_at s x.0) (bound_at s x.1)
 
+-- ---- slot arrays
+
+-- what a call does with a slot array
+pub data ArrayUse : Type 0 where
+  -- it has none
+  unused : ArrayUse
+  -- it sends the handles of so many places of the array as the register says
+  sends : (array count : ℕ) → ArrayUse
+  -- it puts handles that it receives into the array
+  keeps : (array : ℕ) → ArrayUse
+
+-- why handles can't be sent from the array, if they can't
+abbrev pub cannot_send : Option SlotArray → Option Cause
+cannot_send None = Some cause.IllegalOp
+cannot_send (Some a) = if within TRANSFER (bits a.rights) then None else Some cause.LacksRight
+
+-- why handles of which nothing is known can't be put into the array, if they can't
+abbrev pub cannot_keep : Option SlotArray → Option Cause
+cannot_keep None = Some cause.IllegalOp
+cannot_keep (Some a) = if is_some a.kind then Some cause.WrongKind else if bits a.rights == 0 then None else Some cause.LacksRight
+
+-- why the slot array can't be that of the call, if it can't
+abbrev pub array_fault : Image → ArrayUse → Option Cause
+array_fault i unused = None
+array_fault i (sends array count) = cannot_send (slice_get i.slots array)
+array_fault i (keeps array) = cannot_keep (slice_get i.slots array)
+
+-- the array has as many places
+abbrev pub is_as_long : Option SlotArray → Option ℕ → Bool
+is_as_long (Some a) (Some m) = nat_le m a.length
+is_as_long _ _ = false
+
+-- the array has as many places as the register says, where the call sends handles of them
+abbrev pub count_fits : Image → State → ArrayUse → Bool
+count_fits i s (sends array count) = is_as_long (slice_get i.slots array) (bound_at s count)
+count_fits i s _ = true
+
+-- ---- needs
+
 -- the program declares that it needs to make such objects, where the call makes one
 abbrev pub is_declared : Image → Option Condition → Bool
 is_declared i None = true
@@ -107,15 +147,17 @@ pub record Uses : Type 0 where
   pub words : List ℕ
   -- of these the address and the length of a range of the memory
   pub range : Option (ℕ × ℕ)
+  -- the slot array
+  pub array : ArrayUse
   -- the condition of making an object
   pub condition : Option Condition
   -- the destinations with what they get, the status first
   pub results : List (ℕ × AbsVal)
 
 -- uses by their parts
-abbrev pub uses : List Operand → List ℕ → Option (ℕ × ℕ) → Option Condition → List (ℕ × AbsVal) → Uses
-uses operands words range condition results =
-    record { operands = operands; words = words; range = range; condition = condition; results = results }
+abbrev pub uses : List Operand → List ℕ → Option (ℕ × ℕ) → ArrayUse → Option Condition → List (ℕ × AbsVal) → Uses
+uses operands words range array condition results =
+    record { operands = operands; words = words; range = range; array = array; condition = condition; results = results }
 
 -- the destinations are written
 abbrev pub answers : State → List (ℕ × AbsVal) → Result State Cause
@@ -124,17 +166,22 @@ answers s results =
     else if has_one s results then Err cause.Leak
     else Ok (with_all s results)
 
--- the tests behind that of the operands, which left t of the state s: words are as they were before
+-- the tests behind those of the operands, which left t of the state s, and of the slot array: words are as they were before
 abbrev pub finished : Image → State → State → Uses → Result State Cause
 finished i s t u =
     if not (are_words s u.words) then Err cause.NotWord
-    else if not (range_fits i s u.range) then Err cause.MemoryRange
+    else if not (range_fits i s u.range && count_fits i s u.array) then Err cause.MemoryRange
     else if not (is_declared i u.condition) then Err cause.UndeclaredNeed
     else answers t u.results
 
+-- the same, unless the slot array is at fault
+abbrev pub finished_unless : Option Cause → Image → State → State → Uses → Result State Cause
+finished_unless (Some c) i s t u = Err c
+finished_unless None i s t u = finished i s t u
+
 -- the state after the call, in the order of its tests
 abbrev pub state_after : Image → State → Uses → Result State Cause
-state_after i s u = and_then (examined_all s u.operands) (λ t. finished i s t u)
+state_after i s u = and_then (examined_all s u.operands) (λ t. finished_unless (array_fault i u.array) i s t u)
 
 -- ---- the columns of the table
 
@@ -152,7 +199,15 @@ is_word _ = false
 abbrev pub range_in : Ending → List ℕ → Option (ℕ × ℕ)
 range_in ending.Room rs = Some (slice_index rs 2, slice_index rs 3)
 range_in ending.Handles rs = Some (slice_index rs 2, slice_index rs 3)
+range_in ending.FromSlots rs = Some (slice_index rs 2, slice_index rs 3)
+range_in ending.IntoSlots rs = Some (slice_index rs 2, slice_index rs 3)
 range_in _ rs = None
+
+-- the slot array that the last eight bytes name, where the call has one; the fifth register says how many places are sent
+abbrev pub array_in : Ending → CallInstr → ArrayUse
+array_in ending.FromSlots c = sends (number_at c.last 0 4) (slice_index c.registers 4)
+array_in ending.IntoSlots c = keeps (number_at c.last 0 4)
+array_in _ c = unused
 
 -- ---- what an answer gives
 
@@ -197,6 +252,8 @@ pub data Gives : Type 0 where
   -- active signals
   signals : Gives
   packet : Gives
+  -- the kind and the rights of the handle in the second register
+  tells : Gives
 
 -- the same of each call
 abbrev pub gives : CallName → Gives
@@ -213,20 +270,25 @@ gives call.PortPoll = packet
 gives call.ProcessCreate = makes (kind.Process ∷ [])
 gives call.JobCreate = makes (kind.Job ∷ [])
 gives call.EventpairCreate = makes (kind.Eventpair ∷ kind.Eventpair ∷ [])
+gives call.ChanReadSlots = sizes
+gives call.HandleInfo = tells
 gives _ = nothing
 
--- the values of the destinations that get it, by the value of the call's second register and its number
-abbrev pub values_by : List ℕ → Gives → AbsVal → ℕ → List AbsVal
-values_by bounds nothing have number = []
-values_by bounds (makes kinds) have number = map new kinds
-values_by bounds copies have number = narrowed_value have number ∷ []
-values_by bounds sizes have number = Word 65536 ∷ Word 64 ∷ []
-values_by bounds signals have number = Word 0xffff_ffff ∷ []
-values_by bounds packet have number = packet_values bounds
+-- the values of the destinations that get it, by the call's second register, the value there, and the call's number
+abbrev pub values_by : List ℕ → Gives → (register : ℕ) → AbsVal → ℕ → List AbsVal
+values_by bounds nothing register have number = []
+values_by bounds (makes kinds) register have number = map new kinds
+values_by bounds copies register have number = narrowed_value have number ∷ []
+values_by bounds sizes register have number = Word 65536 ∷ Word 64 ∷ []
+values_by bounds signals register have number = Word 0xffff_ffff ∷ []
+values_by bounds packet register have number = packet_values bounds
+values_by bounds tells register have number = KindOf register ∷ RightsOf register ∷ []
 
 -- the same of a call in a state
 abbrev pub values_of : List ℕ → State → CallInstr → List AbsVal
-values_of bounds s c = values_by bounds (gives c.name) (value_at s (slice_index c.registers 1)) (number_at c.last 0 4)
+values_of bounds s c =
+    let register = slice_index c.registers 1 in
+    values_by bounds (gives c.name) register (value_at s register) (number_at c.last 0 4)
 
 -- ---- the rule
 
@@ -236,6 +298,7 @@ uses_by r c values = record {
   operands = operands_at r.fields 0 c.registers ++ operands_listed r.in_list (listed_in r.ending c);
   words = those is_word r.fields 0 c.registers;
   range = range_in r.ending c.registers;
+  array = array_in r.ending c;
   condition = r.condition;
   results = zip (those is_written r.fields 0 c.registers) (Word 30 ∷ values) ++ received_in r.ending c;
 }

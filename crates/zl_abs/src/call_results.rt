@@ -7,7 +7,7 @@ ghost use Rattle.zl_code.specs.Instructions.{call_row, field_of};
 ghost use Rattle.zl_code.specs.Limits.{most_registers, register_count};
 ghost use Rattle.zl_code.specs.Spells.{call_reading, names_registers};
 ghost use Rattle.zl_code.specs.declared.layout.Ending.TheVariants as ending;
-ghost use Rattle.zl_abs.specs.declared.value.AbsVal.TheVariants.{Word};
+ghost use Rattle.zl_abs.specs.declared.value.AbsVal.TheVariants.{Word, KindOf, RightsOf};
 ghost use Rattle.zl_abs.specs.Found.{bounds_in};
 ghost use Rattle.zl_abs.specs.Values.{ANY};
 ghost use Rattle.zl_abs.specs.CallRules.{narrowed_value, new, packet_values, received_in, triple_results, values_of};
@@ -86,6 +86,16 @@ fn message() -> [AbsVal; InstrBytes::REGISTERS]
     values
 }
 
+/// What the destinations get that are told of the handle in the register: behind the status its
+/// kind and its rights.
+fn told(register: Register) -> [AbsVal; InstrBytes::REGISTERS]
+    ensures { result ≡ Word 30 ∷ KindOf register ∷ replicate 5 (RightsOf register) }
+{
+    let mut values = status_and(AbsVal::RightsOf(register));
+    values[1] = AbsVal::KindOf(register);
+    values
+}
+
 /// What the destinations among the registers of a call get, as far as it has them.
 pub(crate) fn values_of(
     bounds: Rounding<'_>,
@@ -104,6 +114,7 @@ pub(crate) fn values_of(
         Gives::Sizes => message(),
         Gives::Signals => status_and(AbsVal::Word(0xffff_ffff)),
         Gives::Packet => packet(bounds),
+        Gives::Tells => told(instr.registers[1]),
     }
 }
 

@@ -8,12 +8,12 @@ ghost use Rattle.zl_code.specs.Limits.{most_registers};
 ghost use Rattle.zl_code.specs.Refusals.{operand_by};
 ghost use Rattle.zl_code.specs.Spells.{call_reading, is_call_in_range, names_registers};
 ghost use Rattle.zl_abs.specs.Found.{bounds_in};
-ghost use Rattle.zl_abs.specs.CallRules.{call_rule, examined_all, finished, goes_on, is_word, operands_at, operands_listed, range_in, received_in, stops, uses};
+ghost use Rattle.zl_abs.specs.CallRules.{array_in, call_rule, examined_all, finished, goes_on, is_word, operands_at, operands_listed, range_in, received_in, stops, uses};
 ghost use Rattle.zl_abs.specs.Changes.{left_by, ways_told};
 ghost use Rattle.zl_abs.specs.Rule.{and_then, passes};
 
 use crate::call_results::{MOST_WRITTEN, Results, values_of, with_received, written};
-use crate::call_tests::finish;
+use crate::call_tests::{array_fault, finish};
 use crate::cause::Cause;
 use crate::change::Change;
 use crate::operand::Operand;
@@ -94,8 +94,8 @@ fn examine_all(after: &mut AbsState, columns: &Columns, instr: &CallInstr) -> Op
     }
 }
 
-/// Ends a call whose operands passed, and left `after` of the state. Its destinations among the
-/// registers get these values. Why it can't be answered, if it can't.
+/// Ends a call whose operands and slot array passed, and left `after` of the state. Its destinations
+/// among the registers get these values. Why it can't be answered, if it can't.
 fn finish_with(
     image: &Image,
     state: &AbsState,
@@ -109,7 +109,8 @@ fn finish_with(
     requires values { length values.now ≡ most_registers }
     ensures { left_by after.new result ≡ finished image.now state.now after.old
         (uses [] (those is_word (map field_of columns.now.fields.now) 0 instr.now.registers)
-        (range_in columns.now.ending instr.now.registers) columns.now.condition
+        (range_in columns.now.ending instr.now.registers) (array_in columns.now.ending instr.now)
+        columns.now.condition
         (zip (those is_written (map field_of columns.now.fields.now) 0 instr.now.registers) values.now
         ++ received_in columns.now.ending instr.now)) }
 {
@@ -151,6 +152,9 @@ pub(crate) fn call_rule(
 {
     let columns = instr.name.row().columns;
     if let Some(cause) = examine_all(after, columns, &instr) {
+        return Err(cause);
+    }
+    if let Some(cause) = array_fault(image, columns.ending, &instr) {
         return Err(cause);
     }
     let values = values_of(bounds, state, &instr);

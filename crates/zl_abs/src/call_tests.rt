@@ -1,18 +1,19 @@
 //! The tests of a call, by what it uses, and what an answer writes.
 
-ghost use Rattle.std.specs.Prelude.{◌≡◌, ◌≤◌, ◌||◌, [], is_some, length, map, not};
+ghost use Rattle.std.specs.Prelude.{◌≡◌, ◌≤◌, ◌&&◌, ◌||◌, [], is_some, length, map, not, slice_get};
 ghost use Rattle.zl_code.specs.Asked.{those};
 ghost use Rattle.zl_code.specs.Instructions.{field_of};
 ghost use Rattle.zl_code.specs.Limits.{most_registers};
-ghost use Rattle.zl_abs.specs.CallRules.{answers, are_distinct, are_words, finished, has_one, is_declared, is_result, is_word, range_fits, range_in, uses};
+ghost use Rattle.zl_abs.specs.CallRules.{answers, are_distinct, are_words, array_fault, array_in, cannot_keep, cannot_send, count_fits, finished, has_one, is_declared, is_result, is_word, range_fits, range_in, uses};
 ghost use Rattle.zl_abs.specs.Changes.{left_by};
 ghost use Rattle.zl_abs.specs.States.{bound_at};
 
 use crate::cause::Cause;
 use crate::state::AbsState;
 use crate::value::{AbsVal, is_register};
+use bitflags::Flags;
 use zl_code::{CallInstr, Columns, Ending, Field, Image, Register};
-use zl_rights::Condition;
+use zl_rights::{Condition, Rights};
 
 /// Whether the register holds a word, if the call reads one there.
 fn is_read(state: &AbsState, field: &Field, register: Register) -> bool
@@ -42,7 +43,10 @@ fn is_range_there(image: &Image, state: &AbsState, ending: Ending, registers: &[
     requires { length registers.now ≡ most_registers }
     ensures { result ≡ range_fits image.now state.now (range_in ending registers.now) }
 {
-    if !matches!(ending, Ending::Room | Ending::Handles) {
+    if !matches!(
+        ending,
+        Ending::Room | Ending::Handles | Ending::FromSlots | Ending::IntoSlots
+    ) {
         return true;
     }
     let Some(address) = state.get(registers[2]).bound() else {
@@ -52,6 +56,74 @@ fn is_range_there(image: &Image, state: &AbsState, ending: Ending, registers: &[
         return false;
     };
     address.saturating_add(length) <= u64::from(image.memory())
+}
+
+/// Why handles can't be sent from the slot array of this number, if they can't.
+fn cannot_send(image: &Image, array: u32) -> Option<Cause>
+    ensures { result ≡ cannot_send (slice_get image.now.slots array) }
+{
+    let Some(array) = image.slots().get(array as usize) else {
+        return Some(Cause::IllegalOp);
+    };
+    if Rights::TRANSFER.within(array.rights) {
+        None
+    } else {
+        Some(Cause::LacksRight)
+    }
+}
+
+/// Why handles of which nothing is known can't be put into the slot array of this number, if they
+/// can't.
+fn cannot_keep(image: &Image, array: u32) -> Option<Cause>
+    ensures { result ≡ cannot_keep (slice_get image.now.slots array) }
+{
+    let Some(array) = image.slots().get(array as usize) else {
+        return Some(Cause::IllegalOp);
+    };
+    if array.kind.is_some() {
+        Some(Cause::WrongKind)
+    } else if array.rights.bits() == 0 {
+        None
+    } else {
+        Some(Cause::LacksRight)
+    }
+}
+
+/// Why the slot array can't be that of the call, if it can't.
+pub(crate) fn array_fault(image: &Image, ending: Ending, instr: &CallInstr) -> Option<Cause>
+    ensures { result ≡ array_fault image.now (array_in ending instr.now) }
+{
+    match ending {
+        Ending::FromSlots => cannot_send(image, instr.number()),
+        Ending::IntoSlots => cannot_keep(image, instr.number()),
+        _ => None,
+    }
+}
+
+/// Whether the slot array has as many places as the fifth register says, where the call sends
+/// handles of them.
+fn is_count_there(image: &Image, state: &AbsState, ending: Ending, instr: &CallInstr) -> bool
+    ensures { result ≡ count_fits image.now state.now (array_in ending instr.now) }
+{
+    if !matches!(ending, Ending::FromSlots) {
+        return true;
+    }
+    let Some(array) = image.slots().get(instr.number() as usize) else {
+        return false;
+    };
+    let Some(count) = state.get(instr.registers[4]).bound() else {
+        return false;
+    };
+    count <= u64::from(array.length)
+}
+
+/// Whether the range of memory and the places of the slot array are there, where the call has them.
+fn is_all_there(image: &Image, state: &AbsState, ending: Ending, instr: &CallInstr) -> bool
+    ensures { result ≡ (range_fits image.now state.now (range_in ending instr.now.registers)
+        && count_fits image.now state.now (array_in ending instr.now)) }
+{
+    is_range_there(image, state, ending, &instr.registers)
+        && is_count_there(image, state, ending, instr)
 }
 
 /// Whether the program declares that it needs to make such objects, where the call makes one.
@@ -108,8 +180,8 @@ fn answer(after: &mut AbsState, results: &[(Register, AbsVal)]) -> Option<Cause>
     }
 }
 
-/// Ends a call whose operands passed, and left `after` of the state. Why it can't be answered, if
-/// it can't.
+/// Ends a call whose operands and slot array passed, and left `after` of the state. Why it can't be
+/// answered, if it can't.
 pub(crate) fn finish(
     image: &Image,
     state: &AbsState,
@@ -121,11 +193,12 @@ pub(crate) fn finish(
     requires { length columns.now.fields.now ≤ most_registers }
     ensures { left_by after.new result ≡ finished image.now state.now after.old
         (uses [] (those is_word (map field_of columns.now.fields.now) 0 instr.now.registers)
-        (range_in columns.now.ending instr.now.registers) columns.now.condition results.now) }
+        (range_in columns.now.ending instr.now.registers) (array_in columns.now.ending instr.now)
+        columns.now.condition results.now) }
 {
     if !are_words(state, columns.fields, &instr.registers) {
         Some(Cause::NotWord)
-    } else if !is_range_there(image, state, columns.ending, &instr.registers) {
+    } else if !is_all_there(image, state, columns.ending, instr) {
         Some(Cause::MemoryRange)
     } else if !is_declared(image, columns.condition) {
         Some(Cause::UndeclaredNeed)

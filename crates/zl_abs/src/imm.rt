@@ -47,7 +47,8 @@ fn imm_of_call(call: &CallInstr) -> Option<u32>
     ensures { result ≡ imm_of (instr.Call call.now) }
 {
     match call.name.row().columns.ending {
-        Ending::Number | Ending::Both | Ending::Room => Some(call.number()),
+        Ending::Number | Ending::Both | Ending::Room | Ending::FromSlots | Ending::IntoSlots =>
+            Some(call.number()),
         _ => None,
     }
 }

@@ -9,4 +9,4 @@ returns-in-Status c =
     let places = those is_written (call_row i.name).fields 0 i.registers in
     let values = Word 30 ∷ values_of (bounds_in c.args.bounds) c.args.state.now i in
     ap (zip places) c.status_and.ensures ∙ ap (λ g. zip places (unless_alone values g)) (sym c.in-Status.is ∙ c.row.ensures.gives)
-    ∙ status_alone i.name i.registers _ (value_at c.args.state.now (slice_index i.registers 1)) (number_at i.last 0 4)
+    ∙ status_alone i.name i.registers _ (slice_index i.registers 1) (value_at c.args.state.now (slice_index i.registers 1)) (number_at i.last 0 4)

@@ -1,11 +1,16 @@
 use Rattle.zl_abs.proofs.Common.{Row, bounds_in, call_reading, names_registers, row_value, subst, sym, true, whole, ◌∙◌, ◌≡◌}
-use Rattle.zl_abs.proofs.CallByRow.{stopped, ended}
+use Rattle.zl_abs.proofs.CallByRow.{array_stopped, stopped, ended}
 use Rattle.zl_abs.proofs.call_rules.call_rule.Goals as goal
 
 pub returns-in-Some : goal.returns-in-Some
 returns-in-Some c =
     stopped (bounds_in c.args.bounds) c.args.image.now c.args.state.now c.args.instr (row_value c.row.result) c.row.ensures.row _
     (rw c.requires.same at (c.in-Some.ensures {u = tt}))
+
+pub returns-in-Some-array_fault : goal.returns-in-Some-array_fault
+returns-in-Some-array_fault c =
+    array_stopped (bounds_in c.args.bounds) c.args.image.now c.args.state.now c.args.instr (row_value c.row.result) c.row.ensures.row
+    _ (rw c.requires.same at (c.in_default.ensures {u = tt})) _ (c.in-Some-array_fault.ensures {u = tt})
 
 pub finish_with-fault-requires-clause-room : goal.finish_with-fault-requires-clause-room
 finish_with-fault-requires-clause-room c =
@@ -14,4 +19,5 @@ finish_with-fault-requires-clause-room c =
 pub returns : goal.returns
 returns c =
     c.ended.ensures ∙ ended (bounds_in c.args.bounds) c.args.image.now c.args.state.now c.args.instr (row_value c.row.result) c.row.ensures.row
-    c.values_of-values.result c.values_of-values.ensures _ _ (rw c.requires.same at (c.in_default.ensures {u = tt})) c.finish_with-fault.ensures
+    _ (rw c.requires.same at (c.in_default.ensures {u = tt})) (c.in_default-array_fault.ensures {u = tt})
+    c.values_of-values.result c.values_of-values.ensures _ c.finish_with-fault.ensures

@@ -2,8 +2,9 @@
 use Rattle.zl_verify.proofs.Common.{AbsVal, AllByRecursion, Bool, CallInstr, CallName, Cpu, Ending, List, None, Operand, Option, Site, Some, State, TRANSFER}
 use Rattle.zl_verify.proofs.Common.{Uses, WRITE, Word, [], any, ap, are_registers, arith, both, call_reading, call_row, cond, condition_of, drop, false}
 use Rattle.zl_verify.proofs.Common.{handle_operands, is_call_in_range, list_all, map, names_registers, nat_le, nat_lt, nat_tests, needs, number_at, operands_at}
-use Rattle.zl_verify.proofs.Common.{operands_listed, received_in, refl, register_count, site_of, slice_index, suc, taking, triple_results, true, uses_of}
-use Rattle.zl_verify.proofs.Common.{values_of, zero, zip, ℕ, ◌&&◌, ◌*◌, ◌++◌, ◌+◌, ◌<◌, ◌∷◌, ◌≡◌, ◌≤◌}
+use Rattle.zl_verify.proofs.Common.{operands_listed, received_in, refl, register_count, site_of, slice_index, suc, sym, taking, triple_results, true, uses_of}
+use Rattle.zl_verify.proofs.Common.{values_of, zero, zip, ℕ, ◌&&◌, ◌*◌, ◌++◌, ◌+◌, ◌<◌, ◌∙◌, ◌∷◌, ◌≡◌, ◌≤◌}
+use Rattle.std.proofs.lemmas.List.{append-nil}
 use Rattle.zl_code.specs.Limits.{most_handles}
 use Rattle.zl_code.specs.Instructions.{Field, names, consumes, closes}
 use Rattle.zl_code.specs.Asked.{used, those, is_written, listed_in, triples_from}
@@ -13,6 +14,7 @@ use Rattle.zl_rights.specs.declared.kind.Kind.TheVariants as kind
 use Rattle.zl_code.specs.declared.history.CallName.TheVariants as name
 use Rattle.zl_code.specs.declared.layout.Ending.TheVariants as ending
 use Rattle.zl_verify.proofs.Examining.{valued, taken_registers, AreOperands, bars_zero}
+use Rattle.zl_verify.proofs.Emptying.{emptied_by, given, sent_from}
 use Rattle.zl_verify.proofs.Fitting.{AreInside}
 use Rattle.zl_verify.proofs.Sites.{call, AtSite, of_site}
 use Rattle.zl_verify.proofs.SizedWorlds.{all_behind}
@@ -120,16 +122,13 @@ places_end rs last range = room_there (slice_index rs 6) (number_at last 0 4) (w
 
 -- the call at the site asks for what its rule uses
 pub record IsAligned (c : Cpu) (t : Site) (u : Uses) : Type 0 where
-  pub operands : handle_operands t.request ≡ map (valued c.registers) u.operands
+  pub operands : handle_operands t.request ≡ map (valued c.registers) u.operands ++ given (sent_from c.slots t.emptied)
   pub consumed : t.consumed ≡ taken_registers u.operands
+  pub emptied : t.emptied ≡ emptied_by c.registers u.array
   pub destinations : t.destinations ≡ map (λ x. x.0) u.results
   pub condition : condition_of t.request ≡ u.condition
   -- 0 passes at the first operand alone, if it does
   pub plain : list_all bars_zero (drop 1 u.operands) ≡ true
-
--- handles that are given away, where the values of their registers are these
-abbrev given : List ℕ → List Operand
-given hs = operands_listed (Some (consumes any TRANSFER)) hs
 
 all_valued : (xs rs : List ℕ) → given (map (λ r. slice_index xs r) rs) ≡ map (valued xs) (given rs)
 all_valued xs [] = refl
@@ -151,8 +150,10 @@ aligned_by : (bounds : List ℕ) (s : State) (c : Cpu) (n : CallName) (rs last :
     → AtSite c (call n rs last) (λ t. IsAligned c t (uses_of bounds s (call n rs last)))
 unfolding uses_of handle_operands
 aligned_by bounds s c name.ChanWrite rs last = record {
-  operands = ap (λ l. needs (slice_index c.registers (slice_index rs 1)) (kind.Channel ∷ []) WRITE ∷ l) (all_valued c.registers (used last));
+  operands = ap (λ l. needs (slice_index c.registers (slice_index rs 1)) (kind.Channel ∷ []) WRITE ∷ l)
+      (all_valued c.registers (used last) ∙ sym (append-nil (map (valued c.registers) (given (used last)))));
   consumed = all_taken (used last);
+  emptied = refl;
   destinations = refl;
   condition = refl;
   plain = all_plain (used last);
@@ -160,11 +161,12 @@ aligned_by bounds s c name.ChanWrite rs last = record {
 aligned_by bounds s c name.ChanReadEtc rs last = record {
   operands = refl;
   consumed = refl;
+  emptied = refl;
   destinations = ap (λ l. slice_index rs 0 ∷ slice_index rs 4 ∷ slice_index rs 5 ∷ l) (triple_destinations (slice_index rs 6) (number_at last 0 4));
   condition = refl;
   plain = refl;
 }
-aligned_by bounds s c _ rs last = record { operands = refl; consumed = refl; destinations = refl; condition = refl; plain = refl }
+aligned_by bounds s c _ rs last = record { operands = refl; consumed = refl; emptied = refl; destinations = refl; condition = refl; plain = refl }
 
 pub aligned : (bounds : List ℕ) (s : State) (x : CallInstr) (c : Cpu) (t : Site) → site_of x c ≡ Some t → IsAligned c t (uses_of bounds s x)
 aligned bounds s x c t site = of_site c x t site (λ t. IsAligned c t (uses_of bounds s x)) (aligned_by bounds s c x.name x.registers x.last)

@@ -1,14 +1,14 @@
 -- A process that conforms and stands at a call: the call, its site, and its rule, which holds there.
 use Rattle.zl_verify.proofs.Common.{AtCall, CallInstr, CallName, Cause, Condition, Cpu, Err, Image, Instr, IsStuck, None, Ok, Option, Process, Result}
-use Rattle.zl_verify.proofs.Common.{RuleHolds, Site, Some, StandsAtCall, State, Ways, World, and_then, ap, bounds_of, by_policy, call_at, call_in, call_rule}
-use Rattle.zl_verify.proofs.Common.{calls_at, edges, goes_on, if◌then◌else◌, inl, inr, instr_at, is_call_in_range, is_declared, length, local_effect, moves}
-use Rattle.zl_verify.proofs.Common.{next_at, next_of, passes, ranges, refl, rule_with, site_of, stops, true, uses_of, with_all, ℕ, ◌∙◌, ◌≡◌, ◌⊎◌}
-use Rattle.zl_verify.proofs.Common.{both, call_row}
+use Rattle.zl_verify.proofs.Common.{RuleHolds, Site, Some, StandsAtCall, State, Ways, World, and_then, ap, array_fault, both, bounds_of, by_policy, call_at}
+use Rattle.zl_verify.proofs.Common.{call_in, call_row, call_rule, calls_at, edges, goes_on, if◌then◌else◌, inl, inr, instr_at, is_call_in_range, is_declared}
+use Rattle.zl_verify.proofs.Common.{length, local_effect, moves, next_at, next_of, passes, ranges, refl, rule_with, site_of, stops, true, uses_of, with_all, ℕ}
+use Rattle.zl_verify.proofs.Common.{◌∙◌, ◌≡◌, ◌⊎◌}
 use Rattle.zl_code.specs.Instructions.{is_known}
 use Rattle.zl_code.specs.declared.instr.Instr.TheVariants as instr
 use Rattle.zl_abs.proofs.FineRules.{in_range_at}
 use Rattle.zl_verify.proofs.Aligned.{aligned}
-use Rattle.zl_verify.proofs.Standing.{has_rule, Stands}
+use Rattle.zl_verify.proofs.Standing.{has_rule, may_empty, Stands}
 
 -- ---- the call
 
@@ -63,6 +63,7 @@ pub record IsRuled (i : Image) (t : ℕ → Option State) (w : World) (p : ℕ) 
   pub left : State
   pub ways : Ways
   pub rule : call_rule (bounds_of i.code) i at.call state ≡ Ok ways
+  pub array : array_fault i (uses_of (bounds_of i.code) state at.call).array ≡ None
   pub leads : (if goes_on at.call.name then passes (with_all left (uses_of (bounds_of i.code) state at.call).results) else stops) ≡ ways
   pub holds : RuleHolds t (and_then (Ok ways) (edges (length i.code) q.cpu.counter 0))
   pub before : Stands w p q at.call s state i.slots (bounds_of i.code) left
@@ -91,6 +92,7 @@ module _ (i : Image) (t : ℕ → Option State) (w : World) (p : ℕ) (q : Proce
           left = r;
           ways = ways;
           rule = is;
+          array = has.array;
           leads = has.leads;
           holds = holds;
           before = record {
@@ -102,6 +104,7 @@ module _ (i : Image) (t : ℕ → Option State) (w : World) (p : ℕ) (q : Proce
             operands = has.operands;
             distinct = has.distinct;
             free = has.free;
+            sends = may_empty at.call q.cpu s (bounds_of i.code) k.conforms.holds k.conforms.memory at.site has;
             allowed = ap (by_policy w p) (aligned (bounds_of i.code) k.conforms.state at.call q.cpu s at.site).condition ∙ policy_allows _ has.declared;
           };
         }

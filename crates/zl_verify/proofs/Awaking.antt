@@ -20,7 +20,7 @@ use Rattle.zl_verify.proofs.Fitting.{Fits}
 use Rattle.zl_verify.proofs.Giving.{status_fits}
 use Rattle.zl_verify.proofs.OwnTable.{losing_all}
 use Rattle.zl_verify.proofs.Sites.{call}
-use Rattle.zl_verify.proofs.Standing.{HasRule, has_rule, Stands, left, left_there, zeroed, answer_holds}
+use Rattle.zl_verify.proofs.Standing.{HasRule, has_rule, may_empty, Stands, left, left_there, zeroed, zeroed_hold, answer_holds}
 use Rattle.zl_verify.proofs.Working.{packets_fit}
 use Rattle.zl_verify.proofs.Blocks.{call_counted}
 
@@ -82,15 +82,16 @@ module _ (i : Image) (t : ℕ → Option State) (range : is_in_range i ≡ true)
         operands = has.operands;
         distinct = has.distinct;
         free = has.free;
+        sends = may_empty x q.cpu s (bounds_of i.code) k.holds k.memory here has;
         allowed = ap (by_policy w p) no_condition;
       }
 
       nothing_left : get q.handles ≡ left before
       nothing_left = ap (λ hs. get (losing_all hs q).handles) (sym none_taken) ∙ left_there before
 
-      holds_after : Holds (get q.handles) (with_all r u.results) after.cpu.registers i.slots q.cpu.slots
+      holds_after : Holds (get q.handles) (with_all r u.results) after.cpu.registers i.slots after.cpu.slots
       holds_after =
-          answer_holds before status.Ok values q.cpu (get q.handles) refl
+          answer_holds before status.Ok values q.cpu (left before) (get q.handles) refl (zeroed_hold before)
           (subst (λ f. Fits f r (zeroed before) u.results (0 ∷ values) (get q.handles)) nothing_left (fits (zeroed before)))
 
       passes_on : ways.passed ≡ Some (with_all r u.results)
@@ -99,7 +100,7 @@ module _ (i : Image) (t : ℕ → Option State) (range : is_in_range i ≡ true)
       is_awake : IsAwake i t q after
       unfolding answered
       is_awake =
-          let known : Known (get q.handles) after.cpu.registers i.slots q.cpu.slots ways.passed = rw passes_on holds_after in
+          let known : Known (get q.handles) after.cpu.registers i.slots after.cpu.slots ways.passed = rw passes_on holds_after in
           let arrives : Arrives (get q.handles) i q.cpu.counter 0 (Ok ways) (Some after.cpu) = (k.memory, inr (refl, known)) in
           let r = reached t (get q.handles) i after.cpu (length i.code) q.cpu.counter 0 (Ok ways) leads_on arrives in
           let follows = subst (OneOf (λ n. after.cpu.counter ≡ n)) (leads_here ways rule) r.1.follows in

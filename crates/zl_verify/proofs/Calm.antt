@@ -1,10 +1,10 @@
 -- What calls tell their callers fits registers: active signals, sizes of messages, and packets.
 use Rattle.zl_verify.proofs.Common.{ANY, AllByRecursion, Body, Bool, ChannelEnd, Entry, EventBody, IsSizedMessage, IsSizedPacket, IsSound, JobBody, Kind, List}
-use Rattle.zl_verify.proofs.Common.{Message, NO_JOBS, NO_PROCESSES, None, Object, Option, PEER_CLOSED, PairEnd, PortBody, ProcessBody, QueuesAreSized, READABLE}
-use Rattle.zl_verify.proofs.Common.{Some, TERMINATED, WRITABLE, World, [], active, and_le_l, arith, bit_and, bit_or, bits, body_in, body_of, both}
-use Rattle.zl_verify.proofs.Common.{default_rights_of, false, first_bytes, first_handles, get, has_child_job, has_child_process, has_default_rights, has_ended}
-use Rattle.zl_verify.proofs.Common.{has_key, if◌then◌else◌, is_empty, is_process, length, list_all, not, object_at, or_lt, packets_at, packets_in, queue_at}
-use Rattle.zl_verify.proofs.Common.{queue_in, queue_of, raisable, refl, slice_index, true, within, ℕ, ◌<◌, ◌∷◌, ◌≡◌, ◌≤◌}
+use Rattle.zl_verify.proofs.Common.{Message, NO_JOBS, NO_PROCESSES, None, Object, Option, PEER_CLOSED, PairEnd, PortBody, Process, ProcessBody, QueuesAreSized}
+use Rattle.zl_verify.proofs.Common.{READABLE, Some, TERMINATED, WRITABLE, World, [], active, and_le_l, arith, bit_and, bit_or, bits, body_in, body_of, both}
+use Rattle.zl_verify.proofs.Common.{default_rights_of, entry_at, false, first_bytes, first_handles, get, handles_in, has_child_job, has_child_process}
+use Rattle.zl_verify.proofs.Common.{has_default_rights, has_ended, has_key, if◌then◌else◌, is_empty, is_process, length, list_all, not, object_at, or_lt}
+use Rattle.zl_verify.proofs.Common.{packets_at, packets_in, queue_at, queue_in, queue_of, raisable, refl, slice_index, true, within, ℕ, ◌<◌, ◌∷◌, ◌≡◌, ◌≤◌}
 use Rattle.zl_rights.specs.Signals.{active_of, implied, signal_if}
 use Rattle.zl_abs.proofs.Order.{is_within}
 use Rattle.zl_rights.specs.declared.kind.Kind.TheVariants as kind
@@ -93,18 +93,31 @@ module _ (w : World) (sized : QueuesAreSized w) where
       by [] k n = omega arith
       by (m ∷ ms) (k, more) n = k.bytes n
 
--- ---- the rights of handles that are received
+-- ---- the rights of handles
 
 default_few : (k : Kind) → default_rights_of k ≤ ANY
 default_few kind.Process = omega arith
 default_few _ = omega arith
 
+one_entry_few : (e : Entry) → has_default_rights e ≡ true → HasFewRights e
+one_entry_few e h = within_few (bits e.rights) (default_rights_of e.kind) ANY h (default_few e.kind)
+
 entries_few : (es : List Entry) → list_all has_default_rights es ≡ true → AllByRecursion HasFewRights es
 entries_few [] h = tt
 entries_few (e ∷ es) h =
     let two = both (has_default_rights e) (list_all has_default_rights es) h in
-    (within_few (bits e.rights) (default_rights_of e.kind) ANY two.0 (default_few e.kind), entries_few es two.1)
+    (one_entry_few e two.0, entries_few es two.1)
 
+-- of a handle in a table
+pub entry_rights : (w : World) → IsSound w → (p h : ℕ) (e : Entry) → entry_at w p h ≡ Some e → HasFewRights e
+unfolding get
+entry_rights w sound p h e = by (get w.processes p) refl
+  where
+    by : (o : Option Process) → get w.processes p ≡ o → get (handles_in o) h ≡ Some e → HasFewRights e
+    by None is there = cc
+    by (Some q) is there = one_entry_few e (sound.handles.rights p h q e is there)
+
+-- of those that are received
 pub first_rights : (w : World) → IsSound w → (p h : ℕ) → AllByRecursion HasFewRights (first_handles (queue_at w p h))
 first_rights w sound p h = by (get w.objects (object_at w p h)) refl
   where

@@ -7,7 +7,7 @@ use Rattle.zl_verify.proofs.Common.{[], action_of, ap, are_declared, bits, by_po
 use Rattle.zl_verify.proofs.Common.{first_some, get, gives_ok, handle_operands, if◌then◌else◌, is_created, is_only_start, is_process, listed, may_choose}
 use Rattle.zl_verify.proofs.Common.{may_get, may_get_all, may_want, misfits, new_handles, next_in, not, not-false, object_at, on_process, operand}
 use Rattle.zl_verify.proofs.Common.{operand_after, option_map, option_to_list, parent_of, pid_of, process_start, process_with, program_in, program_of, refl}
-use Rattle.zl_verify.proofs.Common.{refusal, replied, same_Some, seen_after, site, slice_get, started_with, state_passes, subst, sym, taken, taken_handles}
+use Rattle.zl_verify.proofs.Common.{refusal, replied, same_Some, seen_after, slice_get, started_with, state_passes, subst, sym, taken, taken_handles}
 use Rattle.zl_verify.proofs.Common.{takes, true, unless_allowed, with_effect, within, ℕ, ◌&&◌, ◌++◌, ◌==◌, ◌∙◌, ◌∷◌, ◌≡◌, ◌≤◌}
 use Rattle.zl_rights.specs.declared.policy.Action.TheVariants as action
 use Rattle.zl_rights.specs.declared.policy.Condition.TheVariants as condition
@@ -150,13 +150,13 @@ found_created w k e = by (get w.processes k) refl e
     by (Some x) is e = (x, is, e)
 
 module _ (lib : Library) (w : World) (p : ℕ) (caller : Process) (there : get w.processes p ≡ Some caller) (ready : caller.state ≡ Ready) (process h word : ℕ)
-    (cs ds : List ℕ) (i : Image)
+    (s : Site) (i : Image)
     (program : program_of lib w (object_at w p process) ≡ Some (record { checked = true; image = i })) where
   abbrev child : ℕ
   child = object_at w p process
 
   abbrev start : Site
-  start = site (process_start process h word) cs ds
+  start = record s { request = process_start process h word }
 
   apart : is_process w is_created child ≡ true → (p == child) ≡ false
   apart created = other_way child p (no_child w child p caller created there (ap is_created ready))
@@ -234,12 +234,12 @@ module _ (lib : Library) (w : World) (p : ℕ) (x : TraceItem) (w2 : World) (b :
   sound : IsSound w
   sound = sound_before lib w p x w2 b
 
-  calls : Calls lib w p (site (process_start c.process c.handle c.word) c.site.consumed c.site.destinations) (outcome.Answered status.Ok) b.step.acted
+  calls : Calls lib w p (record c.site { request = process_start c.process c.handle c.word }) (outcome.Answered status.Ok) b.step.acted
   calls =
       let (o, is, h) = acts in
       let both : ◌≡◌ {A = TraceItem} (item.Call p name.ProcessStart o) (item.Call p name.ProcessStart (outcome.Answered status.Ok)) = sym is ∙ told in
       let same : o ≡ outcome.Answered status.Ok = cc in
-      subst (λ r. Calls lib w p (site r c.site.consumed c.site.destinations) (outcome.Answered status.Ok) b.step.acted) c.asks
+      subst (λ r. Calls lib w p (record c.site { request = r }) (outcome.Answered status.Ok) b.step.acted) c.asks
       (subst (λ y. Calls lib w p c.site y b.step.acted) same h)
     where
       acts : Acts lib w p (AtCall name.ProcessStart c.site) x b.step.acted
@@ -248,7 +248,7 @@ module _ (lib : Library) (w : World) (p : ℕ) (x : TraceItem) (w2 : World) (b :
   child_ready : IsReadyChild lib i w b.step.acted k c.word
   child_ready =
       subst (λ j. IsReadyChild lib i w b.step.acted j c.word) c.child
-      (ready_child lib w p own b.step.is_there b.step.is_ready c.process c.handle c.word c.site.consumed c.site.destinations i
+      (ready_child lib w p own b.step.is_there b.step.is_ready c.process c.handle c.word c.site i
       (ap (program_of lib w) c.child ∙ program) b.step.acted calls)
 
   word_small : c.word ≤ ANY

@@ -6,21 +6,22 @@ pub use Rattle.zl_code.proofs.Common.{Object, Operand, Packet, PacketAt, PairEnd
 pub use Rattle.zl_code.proofs.Common.{STUCK, Setting, Settles, SignalOf, Site, Step, Values, Wants, World, [], action_of, after_ok, after_refusal, answer_if}
 pub use Rattle.zl_code.proofs.Common.{any, ap, are_registers, arith, awaited_by, bit_and, bit_or, bit_xor, bits, body_in, body_killed, body_of}
 pub use Rattle.zl_code.proofs.Common.{body_with_packets, body_with_policy, by_policy, bytes_of, call_row, calls_at, cases_Bool, chan_create, chan_read_etc}
-pub use Rattle.zl_code.proofs.Common.{chan_write, choosing, cond, condition_number, condition_of, contains, cpu_answered, created_process, default_rights_of}
-pub use Rattle.zl_code.proofs.Common.{drop, dup, ends_caller, entering_at, entry_at, eq-eqb, eqb, eqb-true, event_create, eventpair_create, false}
-pub use Rattle.zl_code.proofs.Common.{first_handles, first_some, flat_map, get-each, get-put, get-update, get_or, handles_given, has_key, if◌then◌else◌, inl}
-pub use Rattle.zl_code.proofs.Common.{inr, is_among, is_call_in_range, is_empty, is_in_range, is_instr_in_range, is_local_in_range, is_some, is_value}
-pub use Rattle.zl_code.proofs.Common.{job_create, job_set_policy, job_within, kind_number, length, length-map, list_all, list_any, lives, ltb, map, may_boot}
-pub use Rattle.zl_code.proofs.Common.{may_get, may_get_after, may_get_all, may_want, meets, min, nat_le, nat_lt, nat_tests, next_for, none-some, not, number_at}
-pub use Rattle.zl_code.proofs.Common.{number_of, object_at, object_killed, ok_outcome, operand_after, option_map, option_to_list, origin, outcome_of}
-pub use Rattle.zl_code.proofs.Common.{packet_values, packets_for, packets_in, parent_in, parent_of, pid_of, port_cancel, port_create, port_poll, port_queue}
-pub use Rattle.zl_code.proofs.Common.{port_wait, position, process_create, process_ended, process_exit, process_killed, process_settled, process_start}
-pub use Rattle.zl_code.proofs.Common.{process_with, process_with_all, process_without, queue_at, queue_of, receiver_of, refl, replace, replicate, rights_of}
-pub use Rattle.zl_code.proofs.Common.{runs, same_Some, seen_after, setting, signal, signal_peer, single, site, slice_get, slice_get-get_or, slice_index}
-pub use Rattle.zl_code.proofs.Common.{slice_index_or, slice_set, started_with, state_passes, state_without, stored_by, storing, subst, suc, sum_by, sum_by-cons}
-pub use Rattle.zl_code.proofs.Common.{sym, take, taken, takes, task_kill, then_some, true, unless_allowed, wait_async, wait_one, wait_poll, waiting, with_body}
-pub use Rattle.zl_code.proofs.Common.{with_effect, within, woken_at_port, woken_by, woken_by_first, woken_from, woken_if_there, zero, ℕ, ℤ, ⊤, ◌&&◌, ◌*◌, ◌++◌}
-pub use Rattle.zl_code.proofs.Common.{◌+◌, ◌-◌, ◌/◌, ◌<◌, ◌==◌, ◌^◌, ◌||◌, ◌∙◌, ◌∷◌, ◌≡◌, ◌≢◌, ◌≤◌, ◌⊎◌}
+pub use Rattle.zl_code.proofs.Common.{chan_read_slots, chan_write, chan_write_slots, choosing, cond, condition_number, condition_of, contains, cpu_answered}
+pub use Rattle.zl_code.proofs.Common.{created_process, default_rights_of, drop, dup, ends_caller, entering_at, entry_at, eq-eqb, eqb, eqb-true, event_create}
+pub use Rattle.zl_code.proofs.Common.{eventpair_create, false, first_handles, first_some, flat_map, get-each, get-put, get-update, get_or, handles_given}
+pub use Rattle.zl_code.proofs.Common.{has_key, if◌then◌else◌, inl, inr, is_among, is_call_in_range, is_empty, is_in_range, is_instr_in_range, is_local_in_range}
+pub use Rattle.zl_code.proofs.Common.{is_some, is_value, job_create, job_set_policy, job_within, keeping, kept_by, kind_number, length, length-map, list_all}
+pub use Rattle.zl_code.proofs.Common.{list_any, lives, ltb, map, may_boot, may_get, may_get_after, may_get_all, may_want, meets, min, nat_le, nat_lt, nat_tests}
+pub use Rattle.zl_code.proofs.Common.{next_for, none-some, not, number_at, number_of, object_at, object_killed, ok_outcome, operand_after, option_map}
+pub use Rattle.zl_code.proofs.Common.{option_to_list, origin, outcome_of, packet_values, packets_for, packets_in, parent_in, parent_of, pid_of, port_cancel}
+pub use Rattle.zl_code.proofs.Common.{port_create, port_poll, port_queue, port_wait, position, process_create, process_ended, process_exit, process_killed}
+pub use Rattle.zl_code.proofs.Common.{process_settled, process_start, process_with, process_with_all, process_without, queue_at, queue_of, receiver_of, refl}
+pub use Rattle.zl_code.proofs.Common.{replace, replicate, rights_of, runs, same_Some, seen_after, setting, signal, signal_peer, single, site, slice_get}
+pub use Rattle.zl_code.proofs.Common.{slice_get-get_or, slice_index, slice_index_or, slice_set, slots_filled, started_with, state_passes, state_without}
+pub use Rattle.zl_code.proofs.Common.{stored_by, storing, subst, suc, sum_by, sum_by-cons, sym, take, taken, takes, task_kill, then_some, true, unless_allowed}
+pub use Rattle.zl_code.proofs.Common.{wait_async, wait_one, wait_poll, waiting, with_body, with_effect, within, woken_at_port, woken_by, woken_by_first}
+pub use Rattle.zl_code.proofs.Common.{woken_from, woken_if_there, zero, ℕ, ℤ, ⊤, ◌&&◌, ◌*◌, ◌++◌, ◌+◌, ◌-◌, ◌/◌, ◌<◌, ◌==◌, ◌^◌, ◌||◌, ◌∙◌, ◌∷◌, ◌≡◌, ◌≢◌, ◌≤◌}
+pub use Rattle.zl_code.proofs.Common.{◌⊎◌}
 unfoldable pub use Rattle.zl_code.proofs.Common.{active, answered, boot_effect, creates, effect, ended, examined, fired, get, gives_ok, gives_refused}
 unfoldable pub use Rattle.zl_code.proofs.Common.{handle_operands, has_child_job, has_child_process, insert_all, is_process, is_within, listed, local_effect}
 unfoldable pub use Rattle.zl_code.proofs.Common.{local_parts, made_ready, may_choose, new_handles, next_at, on_object, on_process, operand, put, refusal}
@@ -43,9 +44,9 @@ pub use Rattle.zl_abs.proofs.Order.{kind_trans, parts, same_kind_refl, within_is
 pub use Rattle.zl_abs.proofs.RuleLowering.{rule_below}
 pub use Rattle.zl_abs.proofs.StateOrder.{all_below_refl, all_below_trans}
 pub use Rattle.zl_abs.specs.Bounds.{bounds_of, rounded}
-pub use Rattle.zl_abs.specs.CallRules.{Uses, answers, are_words, call_rule_by, examined_by, fault_of, finished, goes_on, has_one, is_declared, is_result}
-pub use Rattle.zl_abs.specs.CallRules.{narrowed_value, new, operands_at, operands_listed, range_fits, range_in, received_in, state_after, stops, sum_fits}
-pub use Rattle.zl_abs.specs.CallRules.{taken_from, takes_any, triple_results, values_of}
+pub use Rattle.zl_abs.specs.CallRules.{Uses, answers, are_words, array_fault, call_rule_by, cannot_keep, count_fits, examined_by, fault_of, finished}
+pub use Rattle.zl_abs.specs.CallRules.{finished_unless, goes_on, has_one, is_declared, is_result, narrowed_value, new, operands_at, operands_listed, range_fits}
+pub use Rattle.zl_abs.specs.CallRules.{range_in, received_in, state_after, stops, sum_fits, taken_from, takes_any, triple_results, values_of}
 unfoldable pub use Rattle.zl_abs.specs.CallRules.{are_distinct, call_rule, examined_all, uses_of}
 pub use Rattle.zl_abs.specs.Fine.{AllFine, IsFine}
 pub use Rattle.zl_abs.specs.Laws.{AreAmong, IsAmong, RuleBelow}
@@ -69,9 +70,10 @@ pub use Rattle.zl_code.proofs.Entering.{get_without, gone_without, left_behind}
 pub use Rattle.zl_code.proofs.ImageRanges.{ranges}
 pub use Rattle.zl_code.proofs.MapKept.{Each}
 pub use Rattle.zl_code.proofs.SoundRuns.{IsBooting, boot_sound, origin_booting, run_sound, step_keeps_processes, step_sound, still_booting}
-pub use Rattle.zl_code.specs.Asked.{has_its_memory}
+pub use Rattle.zl_code.specs.Asked.{has_its_memory, room_in}
 pub use Rattle.zl_code.specs.Boot.{are_declared}
-pub use Rattle.zl_code.specs.CallTable.{name_of}
+pub use Rattle.zl_code.specs.CallTable.{handle_info, name_of}
+pub use Rattle.zl_code.specs.Calls.{zeros_for}
 pub use Rattle.zl_code.specs.Effects.{body_after_read, body_with_message, gets_all, new_entry, signed_word, told_of, with_process}
 pub use Rattle.zl_code.specs.Handles.{Throughout, has_default_rights}
 pub use Rattle.zl_code.specs.Headline.{CoveredGoWell, EndsItself, HasNoFault, IsNeverRefused, IsNotStuck, IsProperStart, IsSizedBoot, IsStarted, KeepsBudget}
@@ -85,8 +87,8 @@ pub use Rattle.zl_code.specs.Sound.{HasItsObject, IsSoundTable, is_blocked, rais
 pub use Rattle.zl_code.specs.Spells.{call_reading, is_32_bits, kind_among, names_registers}
 pub use Rattle.zl_code.specs.Starting.{blank_cpu, cpu_given, is_created, program_in, program_of, set_from, with_handles}
 pub use Rattle.zl_code.specs.Steps.{moves, next_in, next_of}
-pub use Rattle.zl_code.specs.Tests.{copy_of, entries_at, first_bytes, handles_in, is_too_large, koid_in, may_change, peer_at, policy_in, queue_in, settable_of}
-pub use Rattle.zl_code.specs.Tests.{with_rights}
+pub use Rattle.zl_code.specs.Tests.{copy_of, entries_at, first_bytes, handles_in, info_of, is_too_large, koid_in, may_change, peer_at, policy_in, queue_in}
+pub use Rattle.zl_code.specs.Tests.{settable_of, sizes_of, with_rights}
 pub use Rattle.zl_code.specs.Waiting.{body_packed, first_values, is_active_at, is_by_handle, is_keyed, packet_awaited, packets_at, registered, source_at}
 pub use Rattle.zl_code.specs.Waiting.{wait_of, without_keyed}
 pub use Rattle.zl_code.specs.declared.boot.Statement.{Statement}

@@ -95,7 +95,7 @@ seen_all xs seen (o ∷ os) = seen_all xs (seen_after seen (valued xs o)) os
 abbrev pub taken_registers : List Operand → List ℕ
 taken_registers os = map (λ o. o.value) (filter (λ o. o.is_taken) os)
 
-first_two : (a b : Option Outcome) → a ≡ None → b ≡ None → first_some (a ∷ b ∷ []) ≡ None
+pub first_two : (a b : Option Outcome) → a ≡ None → b ≡ None → first_some (a ∷ b ∷ []) ≡ None
 first_two None None e g = refl
 first_two _ _ e g = cc
 
@@ -109,7 +109,7 @@ behind_seen : (b : Bool) (f : Option Entry) (e : Entry) → cond b None f ≡ So
 behind_seen true f e h = cc
 behind_seen false f e h = (refl, h)
 
-one_examined : (w : World) (p : ℕ) (seen : List ℕ) (o : Operand) → IsLive (unseen (Reads w p) seen) o o.value → operand_after w p seen o ≡ None
+pub one_examined : (w : World) (p : ℕ) (seen : List ℕ) (o : Operand) → IsLive (unseen (Reads w p) seen) o o.value → operand_after w p seen o ≡ None
 one_examined w p seen o (inl z) = rw z refl
 one_examined w p seen o (inr (y, there, kind, rights)) =
     let both = behind_seen (contains seen o.value) (entry_at w p o.value) y there in

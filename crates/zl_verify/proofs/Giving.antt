@@ -78,7 +78,7 @@ fresh_value q v sound = by q.last refl
         let there = value_there l free.0 in
         subst (IsFresh q) (sym (eqb-true v l e)) (there.0, there.1, none_at (get q.handles l) free.1)
 
-free_with : (q : Process) (v : ℕ) (e : Entry) → IsFreeLast (process_with v e q)
+pub free_with : (q : Process) (v : ℕ) (e : Entry) → IsFreeLast (process_with v e q)
 free_with q v e l is = cc
 
 -- the process with the handles at these values
@@ -112,7 +112,7 @@ handles_fit _ _ vs q s xs sound may a = absurd a
 
 -- ---- handles with their kinds and rights
 
-within_none : (n : ℕ) → within 0 n ≡ true
+pub within_none : (n : ℕ) → within 0 n ≡ true
 within_none n =
     let le : bit_and 0 n ≤ 0 = and_le_l 0 n in
     let same : bit_and n 0 ≡ bit_and 0 n = and_comm n 0 in

@@ -2,8 +2,8 @@
 use Rattle.zl_verify.proofs.Common.{Acts, AtCall, Awaited, Blocked, Bool, CallName, Calls, Created, Entry, IsStuck, Library, Life, List, Moves, Next, None}
 use Rattle.zl_verify.proofs.Common.{Option, Outcome, Process, Program, Ready, Request, Settles, Site, Some, StartsChild, Step, TraceItem, World, after_ok}
 use Rattle.zl_verify.proofs.Common.{after_refusal, answered, ap, asks_again, awaited_by, cases_Bool, created_process, effect, ended, entering_at, eqb-true}
-use Rattle.zl_verify.proofs.Common.{false, fired, get, get-each, get-put, gives_ok, gives_refused, inl, inr, insert_all, is_created, is_process}
-use Rattle.zl_verify.proofs.Common.{is_within, lives, made_ready, name_of, new_handles, next_for, next_in, object_at, ok_outcome, on_object, on_process}
+use Rattle.zl_verify.proofs.Common.{false, fired, get, get-each, get-put, gives_ok, gives_refused, inl, inr, insert_all, is_created, is_process, is_within}
+use Rattle.zl_verify.proofs.Common.{kept_by, lives, made_ready, name_of, new_handles, next_for, next_in, object_at, ok_outcome, on_object, on_process}
 use Rattle.zl_verify.proofs.Common.{option_map, process_create, process_killed, process_settled, process_start, put, receiver_of, refl, refusal, replied, runs}
 use Rattle.zl_verify.proofs.Common.{slice_get, started_with, state_passes, state_without, stored_by, subst, sym, taken, taken_handles, task_kill, true, waiting}
 use Rattle.zl_verify.proofs.Common.{wakes, with_effect, with_killed, with_object, without_others, ℕ, ◌==◌, ◌∙◌, ◌≡◌, ◌⊎◌}
@@ -16,7 +16,7 @@ use Rattle.zl_verify.proofs.Waking.{turn_by_answer, wakes_by}
 use Rattle.zl_verify.proofs.OwnEffect.{starts_created}
 use Rattle.zl_verify.proofs.AtCalls.{IsAtCall, at_call}
 use Rattle.zl_verify.proofs.OwnTable.{changed_elsewhere, inserted_elsewhere}
-use Rattle.zl_code.proofs.Frame.{left_other, stored_other, ended_other, waiting_other, replied_other}
+use Rattle.zl_code.proofs.Frame.{kept_other, left_other, stored_other, ended_other, waiting_other, replied_other}
 use Rattle.std.proofs.lemmas.Bool.{cond_both}
 
 -- no process of this koid runs
@@ -125,7 +125,7 @@ module _ (p q : ℕ) (apart : (p == q) ≡ false) (lib : Library) (w : World) wh
     module _ (t : Site) where
       when_done : (vs : List ℕ) → Idles t.request (with_effect lib w (taken w p t) p t.request vs)
       when_done vs =
-          carried t.request _ _ (stored_other p q apart (stored_by w p t.request)
+          carried t.request _ _ (kept_other p q apart (kept_by t.request vs) _ ∙ stored_other p q apart (stored_by w p t.request)
           (insert_all (effect lib w (taken w p t) p t.request vs) (receiver_of w p t.request) (new_handles w p t.request) (entering_at t.request vs)))
           (done t.request (taken w p t) (same_idle q w (taken w p t) (left_other p q apart (taken_handles t.request) w) idle) vs (entering_at t.request vs)
           (new_handles w p t.request))

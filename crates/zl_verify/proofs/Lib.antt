@@ -39,6 +39,7 @@ mod Upgrading
 pub mod Tagging
 pub mod Consuming
 pub mod Examining
+pub mod Emptying
 pub mod Fitting
 pub mod Giving
 pub mod OwnTable
@@ -49,6 +50,7 @@ pub mod Calm
 pub mod AtCalls
 pub mod Ordinary
 pub mod Refusing
+pub mod Keeping
 pub mod Working
 pub mod OwnEffect
 pub mod Storing

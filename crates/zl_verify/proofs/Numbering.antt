@@ -9,7 +9,8 @@ use Rattle.zl_code.specs.Blocks.{imm_of}
 use Rattle.zl_verify.specs.declared.steps.Longest.{Longest}
 use Rattle.zl_verify.specs.Lists.{within}
 use Rattle.zl_verify.specs.Nested.{Suits}
-use Rattle.zl_verify.specs.Longest.{AreLongest, FollowBehind, Given, IsKept, IsPairOf, IsStuckFrom, best_of, further, longest_by, longest_from, longest_of}
+use Rattle.zl_verify.specs.Longest.{AreLongest, FollowBehind, Given, IsKept, IsPairOf, IsStuckAt, IsStuckFrom, best_of, further, longest_by}
+use Rattle.zl_verify.specs.Longest.{longest_from, longest_of}
 use Rattle.zl_verify.specs.Longest.{missing, one_if, one_if_none, or_leaf, pair_at, plain, reach, through, through_by, turned, way_by, way_to}
 use Rattle.zl_verify.specs.Peaks.{turns_left}
 use Rattle.zl_verify.proofs.Places.{below_or_not, get_past, nowhere, set_by, there}
@@ -31,6 +32,12 @@ module _ (marks : List Mark) (targets : List Targets) (most : ℕ) where
     pub long : length pairs ≡ length marks
     pub stuck : changed ≡ false → IsStuckFrom marks targets most pairs p
     pub fewer : missing pairs + one_if changed ≤ missing old
+
+  -- what holds in a pass the other way over these pairs
+  pub record PassingOn (old pairs : List (Option Longest)) : Type 0 where
+    pub given : Given marks targets most pairs
+    pub long : length pairs ≡ length marks
+    pub fewer : missing pairs ≤ missing old
 
   -- what holds between passes
   pub record Going (pairs : List (Option Longest)) (changed : Bool) : Type 0 where
@@ -136,40 +143,39 @@ module _ (marks : List Mark) (targets : List Targets) (most : ℕ) (nested : IsN
   of_place n x f h = rw (slice_get-get_or targets n x (omega (arith, nested.long))) refl
 
   -- one place was given a pair
-  pub given_one : (old pairs : List (Option Longest)) (p : ℕ) (changed : Bool) → Passing marks targets most old pairs p changed → 0 < p → p ≤ length marks
-      → is_some (get_or pairs (p - 1) None) ≡ false → (x : Targets) (w : Longest)
-      → longest_by most (slice_get marks (p - 1)) (get_or targets (p - 1) x) (pair_at pairs) (p - 1) ≡ Some w
-      → Passing marks targets most old (slice_set pairs (p - 1) (Some w)) (p - 1) true
-  unfolding missing
-  given_one old pairs p changed g h l e x w q =
-      let i : p - 1 < length pairs = omega (arith, g.long) in
-      let z = none_there (get_or pairs (p - 1) None) e in
-      let s = sum_by-set one_if_none pairs (p - 1) (Some w) None i in
-      let o : one_if_none (get_or pairs (p - 1) None) ≡ 1 = ap one_if_none z in
-      record {
-        given = numbered pairs g.given (p - 1) w i (omega arith) (ap or_leaf (slice_get-get_or pairs (p - 1) None i) ∙ z)
-            (of_place (p - 1) x (pair_at pairs) (omega arith) ∙ q);
-        long = length-set pairs (p - 1) (Some w) ∙ g.long;
-        stuck = λ c. absurd (cc);
-        fewer = omega (arith, g.fewer);
-      }
-    where
-      none_there : (o : Option Longest) → is_some o ≡ false → o ≡ None
-      none_there None e = refl
-      none_there (Some w) e = cc
+  module _ (pairs : List (Option Longest)) (long : length pairs ≡ length marks) (n : ℕ) (h : n < length marks) (none : is_some (get_or pairs n None) ≡ false)
+      (x : Targets) (w : Longest) (q : longest_by most (slice_get marks n) (get_or targets n x) (pair_at pairs) n ≡ Some w) where
+    none_there : get_or pairs n None ≡ None
+    none_there = by (get_or pairs n None) none
+      where
+        by : (o : Option Longest) → is_some o ≡ false → o ≡ None
+        by None e = refl
+        by (Some w) e = cc
 
-  -- the place before stays as it is, where it has a pair or can be given none
-  pub passed_one : (old pairs : List (Option Longest)) (p : ℕ) (changed : Bool) → Passing marks targets most old pairs p changed → 0 < p → p ≤ length marks
-      → (x : Targets) → (is_some (get_or pairs (p - 1) None) ≡ false
-      → longest_by most (slice_get marks (p - 1)) (get_or targets (p - 1) x) (pair_at pairs) (p - 1) ≡ None)
-      → Passing marks targets most old pairs (p - 1) changed
-  passed_one old pairs p changed g h l x q = record {
+    pub given_one : Given marks targets most pairs → Given marks targets most (slice_set pairs n (Some w))
+    given_one g =
+        numbered pairs g n w (omega (arith, long)) h (ap or_leaf (slice_get-get_or pairs n None (omega (arith, long))) ∙ none_there)
+        (of_place n x (pair_at pairs) h ∙ q)
+
+    pub fewer_one : missing (slice_set pairs n (Some w)) + 1 ≤ missing pairs
+    unfolding missing
+    fewer_one =
+        let s = sum_by-set one_if_none pairs n (Some w) None (omega (arith, long)) in
+        let o : one_if_none (get_or pairs n None) ≡ 1 = ap one_if_none none_there in omega arith
+
+  -- the place can be given none
+  pub stuck_one : (pairs : List (Option Longest)) (n : ℕ) → n < length marks → (x : Targets)
+      → longest_by most (slice_get marks n) (get_or targets n x) (pair_at pairs) n ≡ None → IsStuckAt marks targets most pairs n
+  stuck_one pairs n h x q z = of_place n x (pair_at pairs) h ∙ q
+
+  -- the place before was given none, and nothing has changed
+  pub passed_one : (old pairs : List (Option Longest)) (p : ℕ) (changed : Bool) → Passing marks targets most old pairs p changed → 0 < p
+      → IsStuckAt marks targets most pairs (p - 1) → Passing marks targets most old pairs (p - 1) changed
+  passed_one old pairs p changed g h k = record {
     given = g.given;
     long = g.long;
     stuck = λ c n i j z. elim (below_or_not n p) [
-      | inl b ↦ (let a : p - 1 ≡ n = omega arith in subst (λ (y : ℕ). at pairs y ≡ None → longest_of marks targets most (pair_at pairs) y ≡ None) a
-          (λ z. of_place (p - 1) x (pair_at pairs) (omega arith) ∙ q
-          (ap is_some (sym (ap within (slice_get-get_or pairs (p - 1) None (omega (arith, g.long)))) ∙ z))) z)
+      | inl b ↦ (let a : p - 1 ≡ n = omega arith in subst (IsStuckAt marks targets most pairs) a k z)
       | inr b ↦ g.stuck c n b j z
     ];
     fewer = g.fewer;

@@ -1,8 +1,8 @@
 -- The listed answers of a call are answers, neither OK nor faults.
-use Rattle.zl_verify.proofs.Common.{AllByRecursion, Bool, Library, List, None, Option, Outcome, Request, Some, Status, World, [], answer_if}
-use Rattle.zl_verify.proofs.Common.{chan_read_etc, chan_write, dup, false, first_some, is_fault, job_create, job_set_policy}
-use Rattle.zl_verify.proofs.Common.{listed, port_wait, process_create, process_exit, process_start, refl}
-use Rattle.zl_verify.proofs.Common.{signal_peer, task_kill, true, wait_async, wait_poll, ℕ, ◌∷◌, ◌≡◌}
+use Rattle.zl_verify.proofs.Common.{AllByRecursion, Bool, Library, List, None, Option, Outcome, Request, Some, Status, World, [], answer_if, chan_read_etc}
+use Rattle.zl_verify.proofs.Common.{chan_read_slots, chan_write, chan_write_slots, dup, false, first_some, handle_info, is_fault, job_create, job_set_policy}
+use Rattle.zl_verify.proofs.Common.{listed, port_wait, process_create, process_exit, process_start, refl, signal_peer, task_kill, true, wait_async, wait_poll}
+use Rattle.zl_verify.proofs.Common.{ℕ, ◌∷◌, ◌≡◌}
 use Rattle.zl_code.specs.CallTable.{close}
 use Rattle.zl_rights.specs.declared.status.Status.TheVariants as status
 use Rattle.zl_code.specs.declared.history.Outcome.TheVariants as outcome
@@ -35,6 +35,10 @@ listed_ordinary lib w p (close h) = tt
 listed_ordinary lib w p (dup h rights) = (if_so _ _ refl refl, (if_so _ _ refl refl, tt))
 listed_ordinary lib w p (chan_write c bytes hs) = (if_so _ _ refl refl, (if_so _ _ refl refl, (if_so _ _ refl refl, tt)))
 listed_ordinary lib w p (chan_read_etc c address room places) = (if_so _ _ refl refl, (if_so _ _ refl refl, (if_so _ _ refl refl, (if_so _ _ refl refl, tt))))
+listed_ordinary lib w p (chan_write_slots c bytes hs) = (if_so _ _ refl refl, (if_so _ _ refl refl, (if_so _ _ refl refl, tt)))
+listed_ordinary lib w p (chan_read_slots c address room array places) =
+    (if_so _ _ refl refl, (if_so _ _ refl refl, (if_so _ _ refl refl, (if_so _ _ refl refl, tt))))
+listed_ordinary lib w p (handle_info h) = tt
 listed_ordinary lib w p (signal_peer h clear set) = (if_so _ _ refl refl, (if_so _ _ refl refl, tt))
 listed_ordinary lib w p (wait_poll h mask) = (if_so _ _ refl refl, (if_so _ _ refl refl, tt))
 listed_ordinary lib w p (wait_async h port key mask) = (if_so _ _ refl refl, (if_so _ _ refl refl, tt))

@@ -3,10 +3,10 @@ use Rattle.zl_verify.proofs.Common.{Acts, AtCall, Awaited, Bool, Calls, Conditio
 use Rattle.zl_verify.proofs.Common.{IsTyping, KILLED, Library, Life, List, Moves, Next, None, Option, OthersLeave, Outcome, Process, Request, STUCK, Site, Some}
 use Rattle.zl_verify.proofs.Common.{State, Status, Step, TraceItem, World, [], after_ok, after_refusal, ap, arith, awaited_by, created_process, creates, effect}
 use Rattle.zl_verify.proofs.Common.{ended, entering_at, false, get, get-each, get-put, gives_ok, gives_refused, has_ended, insert_all, is_among, is_created}
-use Rattle.zl_verify.proofs.Common.{is_in_range, is_some, is_within, left_behind, left_so, lives, new_handles, next_for, object_at, ok_outcome, on_object}
-use Rattle.zl_verify.proofs.Common.{on_process, option_map, process_create, process_ended, process_killed, process_start, receiver_of, refl, refusal, replied}
-use Rattle.zl_verify.proofs.Common.{runs, started_with, stored_by, taken, taken_handles, task_kill, true, waiting, was_killed, with_effect, with_killed}
-use Rattle.zl_verify.proofs.Common.{with_object, ℕ, ◌<◌, ◌==◌, ◌∙◌, ◌≡◌}
+use Rattle.zl_verify.proofs.Common.{is_in_range, is_some, is_within, kept_by, left_behind, left_so, lives, new_handles, next_for, object_at, ok_outcome}
+use Rattle.zl_verify.proofs.Common.{on_object, on_process, option_map, process_create, process_ended, process_killed, process_start, receiver_of, refl, refusal}
+use Rattle.zl_verify.proofs.Common.{replied, runs, started_with, stored_by, taken, taken_handles, task_kill, true, waiting, was_killed, with_effect}
+use Rattle.zl_verify.proofs.Common.{with_killed, with_object, ℕ, ◌<◌, ◌==◌, ◌∙◌, ◌≡◌}
 use Rattle.zl_rights.specs.declared.status.Status.TheVariants as status
 use Rattle.zl_code.specs.declared.history.Outcome.TheVariants as outcome
 use Rattle.zl_verify.proofs.CallEnds.{call_ends}
@@ -14,7 +14,7 @@ use Rattle.zl_verify.proofs.OwnTable.{changed_elsewhere, inserted_elsewhere}
 use Rattle.zl_verify.proofs.OwnEffect.{starts_created, no_child, other_koid, AreAlike, alike_then, same_objects, alike_after, same_policy}
 use Rattle.zl_verify.proofs.Woken.{lives_then, sound_before, ends_step}
 use Rattle.zl_verify.proofs.Ended.{ended_still}
-use Rattle.zl_code.proofs.Frame.{ended_other, left_other, replied_other, stored_other, waiting_other}
+use Rattle.zl_code.proofs.Frame.{ended_other, kept_other, left_other, replied_other, stored_other, waiting_other}
 
 -- ---- the others
 
@@ -102,8 +102,9 @@ module _ (lib : Library) (w : World) (p : ℕ) (caller : Process) (there : get w
     when_done passes vs = record {
       others = λ q y apart at old.
           left_same y _ _
-          (stored_other p q apart (stored_by w p t.request) _ ∙ entered_other p q apart w y at old t.request lib passes (new_handles w p t.request)
-          (entering_at t.request vs) (effect lib w (taken w p t) p t.request vs))
+          (kept_other p q apart (kept_by t.request vs) _ ∙ (stored_other p q apart (stored_by w p t.request) _
+          ∙ entered_other p q apart w y at old t.request lib passes (new_handles w p t.request) (entering_at t.request vs)
+          (effect lib w (taken w p t) p t.request vs)))
           (effect_other p q apart w y at old t.request lib passes (taken w p t) (left_other p q apart (taken_handles t.request) w ∙ at) (below q y at) vs);
       alike = alike_then w w (taken w p t) _ (when_taken t).alike
           (alike_after t.request lib w (taken w p t) p passes (rw (left_behind w p caller (taken_handles t.request) there).1.next_koid (omega arith)) vs);

@@ -1,15 +1,15 @@
 -- The law of a checked process's own call.
 use Rattle.zl_verify.proofs.Common.{AtCall, Awaited, Blocked, Bool, CallInstr, CallName, Calls, CanCall, Condition, Conforms, Cpu, HandlesAreSound, Holds}
 use Rattle.zl_verify.proofs.Common.{Image, IsAnswered, IsMemory, IsOwnEnd, IsStuck, IsTrue, IsTyping, IsWaiting, KILLED, Library, List, None, Ok, OneOf, Option}
-use Rattle.zl_verify.proofs.Common.{Outcome, Packet, Process, Refused, Request, SignalOf, Site, Some, StandsAtCall, State, Status, Uses, Values, WaitsAt, Wants}
-use Rattle.zl_verify.proofs.Common.{World, [], after_ok, after_refusal, and_then, answered, ap, arith, asks_again, awaited_by, bounds_of, by_policy, call_at}
-use Rattle.zl_verify.proofs.Common.{call_in, condition_of, cpu_answered, creates, edges, ends_caller, ends_of, entering_at, examined, exits, false, false≢true}
-use Rattle.zl_verify.proofs.Common.{get, gives_ok, gives_refused, goes_on, handle_operands, if◌then◌else◌, inl, inr, is_active_at, is_among, is_fault}
-use Rattle.zl_verify.proofs.Common.{is_in_range, is_some, is_within, kills, left_behind, length, listed, lives, may_choose, may_want, name_of, next_at, not}
-use Rattle.zl_verify.proofs.Common.{object_at, on_process, outcome_of, packet_awaited, packets_at, passes, process_exit, refl, refusal, reg, replied, rule_with}
-use Rattle.zl_verify.proofs.Common.{same_Some, signed_word, site, site_of, slice_index, status_magnitude, stops, stored_by, subst, sym, taken, taken_handles}
-use Rattle.zl_verify.proofs.Common.{targets_of, task_kill, then_some, true, uses_of, waiting, waits_for, with_all, with_effect, ℕ, ℤ, ◌+◌, ◌∙◌, ◌∷◌, ◌≡◌, ◌⊎◌}
-use Rattle.zl_code.specs.Calls.{wanted}
+use Rattle.zl_verify.proofs.Common.{Outcome, Packet, Process, Refused, Request, SignalOf, Site, Some, StandsAtCall, State, Status, Table, Uses, Values, WaitsAt}
+use Rattle.zl_verify.proofs.Common.{Wants, World, [], after_ok, after_refusal, and_then, answered, ap, arith, asks_again, awaited_by, bounds_of, by_policy}
+use Rattle.zl_verify.proofs.Common.{call_at, call_in, condition_of, cpu_answered, creates, edges, ends_caller, ends_of, entering_at, examined, exits, false}
+use Rattle.zl_verify.proofs.Common.{false≢true, first_some, get, gives_ok, gives_refused, goes_on, handle_operands, if◌then◌else◌, inl, inr, is_active_at}
+use Rattle.zl_verify.proofs.Common.{is_among, is_fault, is_in_range, is_some, is_within, kept_by, kills, left_behind, length, listed, lives, may_choose}
+use Rattle.zl_verify.proofs.Common.{may_want, name_of, next_at, not, object_at, on_process, outcome_of, packet_awaited, packets_at, passes, process_exit, refl}
+use Rattle.zl_verify.proofs.Common.{refusal, reg, replied, rule_with, same_Some, signed_word, site, site_of, slice_index, slots_filled, status_magnitude, stops}
+use Rattle.zl_verify.proofs.Common.{stored_by, subst, sym, taken, taken_handles, targets_of, task_kill, then_some, true, uses_of, waiting, waits_for, with_all}
+use Rattle.zl_verify.proofs.Common.{with_effect, ℕ, ℤ, ◌+◌, ◌∙◌, ◌∷◌, ◌≡◌, ◌⊎◌}
 use Rattle.zl_rights.specs.declared.status.Status.TheVariants as status
 use Rattle.zl_code.specs.declared.history.CallName.TheVariants as name
 use Rattle.zl_code.specs.declared.history.Outcome.TheVariants as outcome
@@ -18,17 +18,18 @@ use Rattle.zl_verify.proofs.Writing.{nothing_at_0}
 use Rattle.zl_verify.proofs.Refining.{Known}
 use Rattle.zl_verify.proofs.LocalSteps.{reached, not_stuck}
 use Rattle.zl_verify.proofs.Agreeing.{Arrives}
+use Rattle.zl_verify.proofs.Emptying.{left_slots}
 use Rattle.zl_verify.proofs.Fitting.{Fits}
 use Rattle.zl_verify.proofs.Giving.{getting_all, IsFreeLast}
-use Rattle.zl_verify.proofs.OwnTable.{changed_here, losing_all, losing_same, own_handles, storing_in, lost_and_got}
+use Rattle.zl_verify.proofs.OwnTable.{changed_here, keeping_in, losing_all, losing_same, own_handles, storing_in, lost_and_got}
 use Rattle.zl_verify.proofs.Sites.{call, AtSite, of_site}
-use Rattle.zl_verify.proofs.Standing.{passed, left, left_there, taken_there, not_refused, zeroed, zeroed_hold, answer_holds}
+use Rattle.zl_verify.proofs.Standing.{passed, left_there, taken_there, not_refused, zeroed, zeroed_hold, answer_holds}
 use Rattle.zl_verify.proofs.AtCalls.{IsRuled, is_ruled, reads}
-use Rattle.zl_verify.proofs.Ordinary.{is_good, IsOrdinary, first_ordinary, listed_ordinary}
-use Rattle.zl_verify.proofs.Refusing.{IsOver, refused_fits}
-use Rattle.zl_verify.proofs.Working.{own_chosen, works}
+use Rattle.zl_verify.proofs.Ordinary.{IsOrdinary, first_ordinary, listed_ordinary}
+use Rattle.zl_verify.proofs.Refusing.{IsOver, MayAnswer, no_want, refused_fits}
+use Rattle.zl_verify.proofs.Working.{keeps, kept_in_table, own_chosen, taken_from_table, works}
 use Rattle.zl_verify.proofs.OwnEffect.{IsDone, caller_after, AreAlike, alike_then, same_objects, alike_after, same_policy}
-use Rattle.zl_verify.proofs.Storing.{storing_same, still_whole}
+use Rattle.zl_verify.proofs.Storing.{keeping_same, keeping_slots, storing_same, still_whole}
 use Rattle.zl_verify.proofs.Blocks.{call_counted}
 
 -- ---- how a call can end
@@ -39,28 +40,24 @@ answers_or_exits (process_exit code) = inr (code, refl)
 answers_or_exits _ = inl refl
 
 -- a call that ends its caller is process_exit, or task_kill
-ends_so : (r : Request) (consumed destinations : List ℕ) (w : World) (p : ℕ) (code : ℤ) → ends_caller w p r ≡ Some code
-    → IsOwnEnd w p (name_of r) (site r consumed destinations) code
-ends_so (process_exit number) cs ds w p code is = exits number refl refl (sym (same_Some (signed_word number) code is))
-ends_so (task_kill task) cs ds w p code is = by (is_within w.objects (object_at w p task) p) refl is
+ends_so : (r : Request) (s : Site) (w : World) (p : ℕ) (code : ℤ) → ends_caller w p r ≡ Some code
+    → IsOwnEnd w p (name_of r) (record s { request = r }) code
+ends_so (process_exit number) s w p code is = exits number refl refl (sym (same_Some (signed_word number) code is))
+ends_so (task_kill task) s w p code is = by (is_within w.objects (object_at w p task) p) refl is
   where
     by : (t : Bool) → is_within w.objects (object_at w p task) p ≡ t → then_some t KILLED ≡ Some code
-        → IsOwnEnd w p name.TaskKill (site (task_kill task) cs ds) code
+        → IsOwnEnd w p name.TaskKill (record s { request = task_kill task }) code
     by true within e = kills task refl refl within (sym (same_Some KILLED code e))
     by false within e = cc
-ends_so _ cs ds w p code is = cc
+ends_so _ s w p code is = cc
 
 -- process_exit ends its caller, and nothing else comes of it
-only_exits : (lib : Library) (w : World) (p n : ℕ) (cs ds : List ℕ) (answer : Outcome) (w2 : World) → Calls lib w p (site (process_exit n) cs ds) answer w2
-    → answer ≡ outcome.Ended (signed_word n)
+only_exits : (lib : Library) (w : World) (p n : ℕ) (s : Site) (answer : Outcome) (w2 : World)
+    → Calls lib w p (record s { request = process_exit n }) answer w2 → answer ≡ outcome.Ended (signed_word n)
 unfolding refusal handle_operands examined listed
-only_exits lib w p n cs ds answer w2 (Refused, h) = absurd h
-only_exits lib w p n cs ds answer w2 (Wants want, h) = absurd (no_want want h.0)
-  where
-    no_want : (a : Status) → wanted false a ≡ true → ⊥
-    no_want status.NoMemory e = false≢true e
-    no_want _ e = false≢true e
-only_exits lib w p n cs ds answer w2 (Values vs, h) = h.1
+only_exits lib w p n s answer w2 (Refused, h) = absurd h
+only_exits lib w p n s answer w2 (Wants want, h) = absurd (no_want want h.0)
+only_exits lib w p n s answer w2 (Values vs, h) = h.1
 
 -- a call that waits stands at a wait of the kind
 waits_by : (c : Cpu) (w : World) (p : ℕ) (awaited : Awaited) (n : CallName) (rs last : List ℕ)
@@ -97,11 +94,10 @@ Promised i t w p q called s (outcome.Answered answer) w2 = (is_fault answer ≡ 
 Promised i t w p q called s outcome.Blocked w2 = IsWaiting i t p q w2
 Promised i t w p q called s (outcome.Ended code) w2 = IsOwnEnd w p called s code
 
--- q2 is q but for its table and its memory
+-- q2 is q but for its table, its memory and its slots
 record IsCaller (i : Image) (q2 q : Process) : Type 0 where
   registers : q2.cpu.registers ≡ q.cpu.registers
   counter : q2.cpu.counter ≡ q.cpu.counter
-  slots : q2.cpu.slots ≡ q.cpu.slots
   counters : q2.cpu.counters ≡ q.cpu.counters
   state : q2.state ≡ q.state
   program : q2.program ≡ q.program
@@ -116,8 +112,12 @@ module _ (i : Image) (t : ℕ → Option State) (w : World) (p : ℕ) (q : Proce
   asked : name_of s.request ≡ called
   asked = asks_again ruled.at.call q.cpu s ruled.at.site ∙ ruled.at.named
 
-  over : IsOver (left ruled.before) ruled.left (zeroed ruled.before)
-  over = record { long = (passed ruled.before).states.long; wide = (zeroed_hold ruled.before).width; none = nothing_at_0 (zeroed_hold ruled.before) }
+  over : IsOver (taken_from_table q s.request) ruled.left (zeroed ruled.before)
+  over = record {
+    long = (passed ruled.before).states.long;
+    wide = (zeroed_hold ruled.before).width;
+    none = ap (λ f. f 0) (left_there ruled.before) ∙ nothing_at_0 (zeroed_hold ruled.before);
+  }
 
   free : IsFreeLast q
   free v is = (k.sound.tables p q k.there).free v is
@@ -138,16 +138,17 @@ module _ (i : Image) (t : ℕ → Option State) (w : World) (p : ℕ) (q : Proce
     passes_on : ruled.ways.passed ≡ Some (with_all ruled.left uses.results)
     passes_on = ap (λ y. y.passed) (sym ruled.leads ∙ ap (λ (b : Bool). if b then passes (with_all ruled.left uses.results) else stops) on)
 
-    -- an answer to q2, which is the caller but for its table and its memory
+    -- an answer to q2, which is the caller but for its table, its memory and its slots
     after_answer : (w1 : World) (q2 : Process) (answer : Status) (values : List ℕ) → get w1.processes p ≡ Some q2 → IsCaller i q2 q → AreAlike w w w1
-        → Fits (left ruled.before) ruled.left (zeroed ruled.before) uses.results (status_magnitude answer ∷ values) (get q2.handles)
+        → (f : Table) → Holds f ruled.left (zeroed ruled.before) i.slots (left_slots q2.cpu.slots s.emptied)
+        → Fits f ruled.left (zeroed ruled.before) uses.results (status_magnitude answer ∷ values) (get q2.handles)
         → IsAnswered i t p q (replied w1 p s answer values)
     unfolding replied answered on_process
-    after_answer w1 q2 answer values there same alike fits =
+    after_answer w1 q2 answer values there same alike f kept fits =
         let c : Cpu = cpu_answered s answer values q2.cpu in
-        let holds : Holds (get q2.handles) (with_all ruled.left uses.results) c.registers i.slots q.cpu.slots =
-        answer_holds ruled.before answer values q2.cpu (get q2.handles) same.registers fits in
-        let known : Known (get q2.handles) c.registers i.slots c.slots ruled.ways.passed = rw (passes_on, same.slots) holds in
+        let holds : Holds (get q2.handles) (with_all ruled.left uses.results) c.registers i.slots c.slots =
+        answer_holds ruled.before answer values q2.cpu f (get q2.handles) same.registers kept fits in
+        let known : Known (get q2.handles) c.registers i.slots c.slots ruled.ways.passed = rw passes_on holds in
         let arrives : Arrives (get q2.handles) i q.cpu.counter 0 (Ok ruled.ways) (Some c) = (same.memory, inr (ap (λ n. n + 1) same.counter, known)) in
         let r = reached t (get q2.handles) i c (length i.code) q.cpu.counter 0 (Ok ruled.ways) ruled.holds arrives in
         let follows = subst (OneOf (λ n. c.counter ≡ n)) leads_here r.1.follows in
@@ -174,24 +175,29 @@ module _ (i : Image) (t : ℕ → Option State) (w : World) (p : ℕ) (q : Proce
     taken_alike : AreAlike w w (taken w p s)
     taken_alike = same_objects w w (taken w p s) (left_behind w p q (taken_handles s.request) k.there).1.objects
 
-    after_refused : (answer : Status) → is_good answer ≡ false → IsAnswered i t p q (after_refusal w p s (outcome.Answered answer))
-    after_refused answer bad =
+    -- what holds once handles and places are consumed
+    consumed_hold : Holds (taken_from_table q s.request) ruled.left (zeroed ruled.before) i.slots (left_slots q.cpu.slots s.emptied)
+    consumed_hold =
+        subst (λ f. Holds f ruled.left (zeroed ruled.before) i.slots (left_slots q.cpu.slots s.emptied))
+        (sym (left_there ruled.before)) (zeroed_hold ruled.before)
+
+    after_refused : (answer : Status) → MayAnswer lib w p s.request answer → IsAnswered i t p q (after_refusal w p s (outcome.Answered answer))
+    after_refused answer may =
         let same = losing_same (taken_handles s.request) q in
         after_answer (taken w p s) (losing_all (taken_handles s.request) q) answer (gives_refused w p s.request answer) (taken_there ruled.before)
         (record {
           registers = ap (λ x. x.registers) same.cpu;
           counter = ap (λ x. x.counter) same.cpu;
-          slots = ap (λ x. x.slots) same.cpu;
           counters = ap (λ x. x.counters) same.cpu;
           state = same.state;
           program = same.program;
           memory = subst (λ x. IsMemory i x.memory) (sym same.cpu) k.conforms.memory;
         })
-        taken_alike
-        (subst (Fits (left ruled.before) ruled.left (zeroed ruled.before) uses.results (status_magnitude answer ∷ gives_refused w p s.request answer))
-        (sym (left_there ruled.before))
-        (refused_fits w p k.sound k.sized answer (left ruled.before) ruled.left (zeroed ruled.before) over (bounds_of i.code) k.conforms.state q.cpu
-        ruled.at.call s ruled.at.site ruled.before.in_range))
+        taken_alike (taken_from_table q s.request)
+        (subst (λ slots. Holds (taken_from_table q s.request) ruled.left (zeroed ruled.before) i.slots (left_slots slots s.emptied))
+        (sym (ap (λ x. x.slots) same.cpu)) consumed_hold)
+        (refused_fits lib w p k.sound k.sized answer (taken_from_table q s.request) ruled.left (zeroed ruled.before) over (bounds_of i.code) k.conforms.state
+        q.cpu ruled.at.call s ruled.at.site ruled.before.in_range may)
 
     -- the caller with its new handles
     abbrev given : List ℕ → Process
@@ -200,9 +206,11 @@ module _ (i : Image) (t : ℕ → Option State) (w : World) (p : ℕ) (q : Proce
     after_worked : refusal lib w p s.request ≡ None → ends_caller w p s.request ≡ None → (vs : List ℕ) → may_choose w (taken w p s) p s.request vs ≡ true
         → IsAnswered i t p q (after_ok lib w p s vs (outcome.Answered status.Ok))
     after_worked none goes vs may =
-        let q2 : Process = storing_in (stored_by w p s.request) (given vs) in
+        let stored : Process = storing_in (stored_by w p s.request) (given vs) in
+        let q2 : Process = keeping_in (kept_by s.request vs) stored in
         let same = lost_and_got (own_handles w p s.request) (entering_at s.request vs) (taken_handles s.request) q in
         let rest = storing_same (stored_by w p s.request) (given vs) in
+        let last = keeping_same (kept_by s.request vs) stored in
         let kept = (left_behind w p q (taken_handles s.request) k.there).1 in
         let done : IsDone lib w (taken w p s) p s.request = record {
           caller = q;
@@ -217,39 +225,46 @@ module _ (i : Image) (t : ℕ → Option State) (w : World) (p : ℕ) (q : Proce
         after_answer (with_effect lib w (taken w p s) p s.request vs) q2 status.Ok (gives_ok w p s.request vs)
         (caller_after s.request lib w (taken w p s) p done goes vs (losing_all (taken_handles s.request) q) (taken_there ruled.before))
         (record {
-          registers = rest.registers ∙ ap (λ x. x.registers) same.cpu;
-          counter = rest.counter ∙ ap (λ x. x.counter) same.cpu;
-          slots = rest.slots ∙ ap (λ x. x.slots) same.cpu;
-          counters = rest.counters ∙ ap (λ x. x.counters) same.cpu;
-          state = rest.state ∙ same.state;
-          program = rest.program ∙ same.program;
-          memory = still_whole i q (given vs) same.cpu k.conforms.memory lib w p k.sized ruled.at.call s ruled.at.site none;
+          registers = last.registers ∙ (rest.registers ∙ ap (λ x. x.registers) same.cpu);
+          counter = last.counter ∙ (rest.counter ∙ ap (λ x. x.counter) same.cpu);
+          counters = last.counters ∙ (rest.counters ∙ ap (λ x. x.counters) same.cpu);
+          state = last.state ∙ (rest.state ∙ same.state);
+          program = last.program ∙ (rest.program ∙ same.program);
+          memory = subst (IsMemory i) (sym last.memory)
+              (still_whole i q (given vs) same.cpu k.conforms.memory lib w p k.sized ruled.at.call s ruled.at.site none);
         })
         (alike_then w w (taken w p s) _ taken_alike (alike_after s.request lib w (taken w p s) p none (rw kept.next_koid (omega arith)) vs))
-        (subst (λ f. Fits f ruled.left (zeroed ruled.before) uses.results (0 ∷ gives_ok w p s.request vs) (get q2.handles)) (left_there ruled.before)
-        (rw rest.handles
+        (kept_in_table w p q s.request vs)
+        (subst (λ slots. Holds (kept_in_table w p q s.request vs) ruled.left (zeroed ruled.before) i.slots
+        (left_slots slots s.emptied))
+        (sym (keeping_slots (kept_by s.request vs) stored
+        ∙ ap (λ slots. slots_filled slots (kept_by s.request vs)) (rest.slots ∙ ap (λ x. x.slots) same.cpu)))
+        (keeps lib w p q k.sound k.sized free (nothing_at_0 k.conforms.holds) ruled.left (zeroed ruled.before) over.long over.wide vs k.conforms.state
+        i.slots (bounds_of i.code) i (passed ruled.before).states ruled.at.call s ruled.at.site ruled.array may_get none consumed_hold))
+        (subst (λ m. Fits (kept_in_table w p q s.request vs) ruled.left (zeroed ruled.before) uses.results (0 ∷ gives_ok w p s.request vs) (get m))
+        (sym (last.handles ∙ rest.handles))
         (works lib w p q k.sound k.sized free (nothing_at_0 k.conforms.holds) ruled.left (zeroed ruled.before) over.long over.wide vs k.conforms.state i.slots
-        (bounds_of i.code) ruled.at.call s ruled.at.site ruled.before may_get none)))
+        (bounds_of i.code) ruled.at.call s ruled.at.site refl ruled.before may_get none))
 
     -- ---- however it ends
 
     abbrev Ends : Outcome → World → Type 0
     Ends = Promised i t w p q called s
 
-    by_refusal : (o : Outcome) → IsOrdinary (Some o) → Ends o (after_refusal w p s o)
-    by_refusal (outcome.Answered answer) (fine, bad) = (fine, after_refused answer bad)
-    by_refusal _ h = absurd h
+    by_refusal : (o : Outcome) → first_some (listed lib w p s.request) ≡ Some o → IsOrdinary (Some o) → Ends o (after_refusal w p s o)
+    by_refusal (outcome.Answered answer) is (fine, bad) = (fine, after_refused answer (inl is))
+    by_refusal _ is h = absurd h
 
     -- a want is no fault
     by_want : (want : Status) → IsTrue (may_want s.request want) → Ends (outcome.Answered want) (after_refusal w p s (outcome.Answered want))
-    by_want status.NoMemory may = (refl, after_refused status.NoMemory refl)
+    by_want status.NoMemory may = (refl, after_refused status.NoMemory (inr may))
     by_want _ may = absurd (false≢true may)
 
     -- it ends its caller, or is answered
     by_ending : refusal lib w p s.request ≡ None → (vs : List ℕ) → may_choose w (taken w p s) p s.request vs ≡ true → (e : Option ℤ)
         → ends_caller w p s.request ≡ e → Ends (outcome_of None e) (after_ok lib w p s vs (outcome_of None e))
     by_ending none vs may None goes = (refl, after_worked none goes vs may)
-    by_ending none vs may (Some code) is = subst (λ n. IsOwnEnd w p n s code) asked (ends_so s.request s.consumed s.destinations w p code is)
+    by_ending none vs may (Some code) is = subst (λ n. IsOwnEnd w p n s code) asked (ends_so s.request s w p code is)
 
     by_waiting : refusal lib w p s.request ≡ None → (vs : List ℕ) → may_choose w (taken w p s) p s.request vs ≡ true → (o : Option Awaited)
         → awaited_by w p s.request ≡ o → Ends (outcome_of o (ends_caller w p s.request)) (after_ok lib w p s vs (outcome_of o (ends_caller w p s.request)))
@@ -274,21 +289,27 @@ module _ (i : Image) (t : ℕ → Option State) (w : World) (p : ℕ) (q : Proce
           };
         }
 
-    refused_ordinary : IsOrdinary (refusal lib w p s.request)
+    -- no operand and no policy refuses it
+    refusal_is : refusal lib w p s.request ≡ first_some (listed lib w p s.request)
     unfolding refusal
-    refused_ordinary = rw (not_refused ruled.before, ruled.before.allowed) (first_ordinary (listed lib w p s.request) (listed_ordinary lib w p s.request))
+    refusal_is = rw (not_refused ruled.before, ruled.before.allowed) refl
+
+    refused_so : (o : Outcome) → refusal lib w p s.request ≡ Some o → Ends o (after_refusal w p s o)
+    refused_so o is =
+        let listed_so : first_some (listed lib w p s.request) ≡ Some o = sym refusal_is ∙ is in
+        by_refusal o listed_so (subst IsOrdinary listed_so (first_ordinary (listed lib w p s.request) (listed_ordinary lib w p s.request)))
 
     promised_answering : (answer : Outcome) (w2 : World) → Calls lib w p s answer w2 → Ends answer w2
     promised_answering =
-        call_ends lib w p s Ends (λ o is. by_refusal o (subst IsOrdinary is refused_ordinary)) by_want
+        call_ends lib w p s Ends (λ o is. refused_so o is) by_want
         (λ none vs may. by_waiting none vs may (awaited_by w p s.request) refl)
 
   promised_exiting : (number : ℕ) → s.request ≡ process_exit number → (answer : Outcome) (w2 : World) → Calls lib w p s answer w2
       → Promised i t w p q called s answer w2
   promised_exiting number same answer w2 h =
-      let calls : Calls lib w p (site (process_exit number) s.consumed s.destinations) answer w2 =
-      subst (λ r. Calls lib w p (site r s.consumed s.destinations) answer w2) same h in
-      rw (only_exits lib w p number s.consumed s.destinations answer w2 calls) (exits number (sym asked ∙ ap name_of same) same refl)
+      let calls : Calls lib w p (record s { request = process_exit number }) answer w2 =
+      subst (λ r. Calls lib w p (record s { request = r }) answer w2) same h in
+      rw (only_exits lib w p number s answer w2 calls) (exits number (sym asked ∙ ap name_of same) same refl)
 
 -- however the call ends, it ends as is promised
 pub promised : (i : Image) (t : ℕ → Option State) (w : World) (p : ℕ) (q : Process) (called : CallName) (s : Site) → StandsAtCall i t w p q called s

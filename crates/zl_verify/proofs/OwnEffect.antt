@@ -2,19 +2,20 @@
 use Rattle.zl_verify.proofs.Common.{Body, Bool, ChannelEnd, Condition, Entry, EventBody, IsSound, JobBody, KILLED, Library, List, Message, None, Object, Option}
 use Rattle.zl_verify.proofs.Common.{Packet, PairEnd, PortBody, Process, ProcessBody, Ready, Request, Setting, Some, World, [], action_of, ap, arith}
 use Rattle.zl_verify.proofs.Common.{body_after_read, body_in, body_killed, body_of, body_packed, body_with_message, body_with_policy, cases_Bool, chan_create}
-use Rattle.zl_verify.proofs.Common.{chan_read_etc, chan_write, condition_number, created_process, creates, effect, ends_caller, entering_at, eq-eqb, eqb-true}
-use Rattle.zl_verify.proofs.Common.{event_create, eventpair_create, false, get, get-each, get-put, get-update, has_child, has_child_job, has_child_process}
-use Rattle.zl_verify.proofs.Common.{has_ended, if◌then◌else◌, inl, inr, insert_all, is_created, is_dead, is_process, is_some, is_within, job_create}
-use Rattle.zl_verify.proofs.Common.{job_set_policy, job_within, listed, lives, nat_tests, new_handles, none-some, object_at, object_killed, on_object}
-use Rattle.zl_verify.proofs.Common.{on_process, option_map, parent_in, parent_of, policy_changed, policy_in, port_cancel, port_create, port_poll, port_queue}
-use Rattle.zl_verify.proofs.Common.{port_wait, process_create, process_exit, process_killed, process_start, receiver_of, refl, refusal, same_Some, setting_of}
-use Rattle.zl_verify.proofs.Common.{signal, signal_peer, started_with, stored_by, storing, subst, sym, task_kill, then_some, true, unless_allowed, unwrap_or}
-use Rattle.zl_verify.proofs.Common.{with_effect, with_killed, with_object, without_keyed, ℕ, ℤ, ◌+◌, ◌<◌, ◌==◌, ◌||◌, ◌∙◌, ◌∷◌, ◌≡◌, ◌≤◌, ◌⊎◌}
+use Rattle.zl_verify.proofs.Common.{chan_read_etc, chan_read_slots, chan_write, chan_write_slots, condition_number, created_process, creates, effect}
+use Rattle.zl_verify.proofs.Common.{ends_caller, entering_at, eq-eqb, eqb-true, event_create, eventpair_create, false, get, get-each, get-put, get-update}
+use Rattle.zl_verify.proofs.Common.{has_child, has_child_job, has_child_process, has_ended, if◌then◌else◌, inl, inr, insert_all, is_created, is_dead}
+use Rattle.zl_verify.proofs.Common.{is_process, is_some, is_within, job_create, job_set_policy, job_within, keeping, kept_by, listed, lives, nat_tests}
+use Rattle.zl_verify.proofs.Common.{new_handles, none-some, object_at, object_killed, on_object, on_process, option_map, parent_in, parent_of, policy_changed}
+use Rattle.zl_verify.proofs.Common.{policy_in, port_cancel, port_create, port_poll, port_queue, port_wait, process_create, process_exit, process_killed}
+use Rattle.zl_verify.proofs.Common.{process_start, receiver_of, refl, refusal, same_Some, setting_of, signal, signal_peer, started_with, stored_by, storing}
+use Rattle.zl_verify.proofs.Common.{subst, sym, task_kill, then_some, true, unless_allowed, unwrap_or, with_effect, with_killed, with_object, without_keyed, ℕ}
+use Rattle.zl_verify.proofs.Common.{ℤ, ◌+◌, ◌<◌, ◌==◌, ◌||◌, ◌∙◌, ◌∷◌, ◌≡◌, ◌≤◌, ◌⊎◌}
 use Rattle.zl_rights.proofs.MapTests.{any_at}
 use Rattle.zl_rights.specs.declared.status.Status.TheVariants as status
 use Rattle.zl_rights.specs.declared.policy.Action.TheVariants as action
 use Rattle.zl_verify.proofs.Giving.{getting_all}
-use Rattle.zl_verify.proofs.OwnTable.{changed_elsewhere, inserted_here, inserted_elsewhere, own_handles, storing_in, stored_here}
+use Rattle.zl_verify.proofs.OwnTable.{changed_elsewhere, inserted_here, inserted_elsewhere, keeping_in, kept_here, own_handles, storing_in, stored_here}
 use Rattle.zl_code.proofs.Passing.{listed_none, test_fails, test_passes}
 use Rattle.zl_code.proofs.Frame.{unkilled}
 use Rattle.std.proofs.lemmas.Bool.{cond_both}
@@ -77,19 +78,23 @@ same_caller (task_kill task) lib w u p k goes vs =
     (ap (λ m. is_within m (object_at w p task) p) k.objects ∙ not_within (is_within w.objects (object_at w p task) p) goes)
 same_caller _ lib w u p k goes vs = refl
 
-entered_own : (es : List Entry) (vs : List ℕ) (at : ℕ × List ℕ) (v : World) (p : ℕ) (q : Process) → get v.processes p ≡ Some q
-    → get (storing (insert_all v p es vs) p at).processes p ≡ Some (storing_in at (getting_all es vs q))
-entered_own es vs at v p q there = stored_here at (insert_all v p es vs) p (getting_all es vs q) (inserted_here es vs v p q there)
+entered_own : (es : List Entry) (vs : List ℕ) (at : ℕ × List ℕ) (kept : Option (ℕ × List ℕ)) (v : World) (p : ℕ) (q : Process) → get v.processes p ≡ Some q
+    → get (keeping (storing (insert_all v p es vs) p at) p kept).processes p ≡ Some (keeping_in kept (storing_in at (getting_all es vs q)))
+entered_own es vs at kept v p q there =
+    kept_here kept _ p (storing_in at (getting_all es vs q))
+    (stored_here at (insert_all v p es vs) p (getting_all es vs q) (inserted_here es vs v p q there))
 
--- handles enter the caller's table and bytes its memory, and nothing else changes there
+-- handles enter the caller's table, bytes its memory and values its slots, and nothing else changes there
 pub caller_after : (r : Request) (lib : Library) (w u : World) (p : ℕ) → IsDone lib w u p r → ends_caller w p r ≡ None → (vs : List ℕ) (q : Process)
     → get u.processes p ≡ Some q
-    → get (with_effect lib w u p r vs).processes p ≡ Some (storing_in (stored_by w p r) (getting_all (own_handles w p r) (entering_at r vs) q))
+    → get (with_effect lib w u p r vs).processes p
+    ≡ Some (keeping_in (kept_by r vs) (storing_in (stored_by w p r) (getting_all (own_handles w p r) (entering_at r vs) q)))
 caller_after (process_start process h word) lib w u p k goes vs q there =
     inserted_elsewhere (new_handles w p (process_start process h word)) vs _ (object_at w p process) p (child_apart lib w u p process h word k)
     ∙ (same_caller (process_start process h word) lib w u p k goes vs ∙ there)
 caller_after r lib w u p k goes vs q there =
-    entered_own (new_handles w p r) (entering_at r vs) (stored_by w p r) (effect lib w u p r vs) p q (same_caller r lib w u p k goes vs ∙ there)
+    entered_own (new_handles w p r) (entering_at r vs) (stored_by w p r) (kept_by r vs) (effect lib w u p r vs) p q
+    (same_caller r lib w u p k goes vs ∙ there)
 
 -- a call that ends its caller leaves it ready, or over
 pub caller_ending : (r : Request) (lib : Library) (w u : World) (p : ℕ) (code : ℤ) → ends_caller w p r ≡ Some code → (vs : List ℕ) (q : Process)
@@ -229,6 +234,8 @@ unfolding effect on_process
 effect_alike chan_create lib w u p passes le vs = pair_alike w u (ChannelEnd (w.next_koid + 1) []) (ChannelEnd w.next_koid []) le
 effect_alike (chan_write c bytes hs) lib w u p passes le vs = changed_alike w u _ _ (λ o. sends_alike _ o.body)
 effect_alike (chan_read_etc c address room places) lib w u p passes le vs = changed_alike w u _ _ (λ o. reads_alike o.body)
+effect_alike (chan_write_slots c bytes hs) lib w u p passes le vs = changed_alike w u _ _ (λ o. sends_alike _ o.body)
+effect_alike (chan_read_slots c address room array places) lib w u p passes le vs = changed_alike w u _ _ (λ o. reads_alike o.body)
 effect_alike event_create lib w u p passes le vs = made_alike w u EventBody le
 effect_alike eventpair_create lib w u p passes le vs = pair_alike w u (PairEnd (w.next_koid + 1)) (PairEnd w.next_koid) le
 effect_alike (signal h clear set) lib w u p passes le vs = changed_alike w u _ _ (λ o. (refl, refl))
@@ -260,11 +267,17 @@ unfolding on_process
 stored_objects (address, []) w p = refl
 stored_objects (address, b ∷ bytes) w p = refl
 
+pub kept_objects : (kept : Option (ℕ × List ℕ)) (w : World) (p : ℕ) → (keeping w p kept).objects ≡ w.objects
+unfolding on_process
+kept_objects None w p = refl
+kept_objects (Some x) w p = refl
+
 pub alike_after : (r : Request) (lib : Library) (w u : World) (p : ℕ) → refusal lib w p r ≡ None → w.next_koid ≤ u.next_koid → (vs : List ℕ)
     → AreAlike w u (with_effect lib w u p r vs)
 alike_after r lib w u p passes le vs =
     alike_then w u (effect lib w u p r vs) _ (effect_alike r lib w u p passes le vs) (same_objects w (effect lib w u p r vs) _
-    (stored_objects (stored_by w p r) _ p ∙ inserted_objects (new_handles w p r) (entering_at r vs) (effect lib w u p r vs) (receiver_of w p r)))
+    (kept_objects (kept_by r vs) _ p ∙ (stored_objects (stored_by w p r) _ p
+    ∙ inserted_objects (new_handles w p r) (entering_at r vs) (effect lib w u p r vs) (receiver_of w p r))))
 
 -- ---- the policy that the caller is under
 

@@ -1,9 +1,11 @@
 -- The caller's process once handles left its table, and once they entered it.
 use Rattle.zl_verify.proofs.Common.{Bool, Entry, List, Map, None, Operand, Option, Process, Request, Some, Table, World, [], ap, arith, cases_Bool, choosing}
 use Rattle.zl_verify.proofs.Common.{cond, eq-eqb, eqb-true, false, filter, get, get-update, get_without, gone_without, has_key, if◌then◌else◌, inl, inr}
-use Rattle.zl_verify.proofs.Common.{insert_all, is_some, map, may_get_all, nat_tests, new_handles, on_process, overwritten, process_start, process_with}
-use Rattle.zl_verify.proofs.Common.{process_without, refl, remove_all, slice_index, storing, sym, true, without, ℕ, ◌==◌, ◌∙◌, ◌∷◌, ◌≡◌, ◌⊎◌}
+use Rattle.zl_verify.proofs.Common.{insert_all, is_some, keeping, map, may_get_all, nat_tests, new_handles, on_process, overwritten, process_start}
+use Rattle.zl_verify.proofs.Common.{process_with, process_without, refl, remove_all, slice_index, slots_filled, storing, sym, true, without, ℕ, ◌++◌, ◌==◌, ◌∙◌}
+use Rattle.zl_verify.proofs.Common.{◌∷◌, ◌≡◌, ◌⊎◌}
 use Rattle.zl_verify.proofs.Consuming.{removed}
+use Rattle.zl_verify.proofs.Emptying.{without_all}
 use Rattle.zl_verify.proofs.Examining.{unseen, unseen_more, seen_all, valued}
 use Rattle.zl_verify.proofs.Giving.{none_at, getting_all}
 use Rattle.zl_code.proofs.Frame.{enter_other}
@@ -54,6 +56,12 @@ losing h q = λ i k. at k i
         by None is = gone is (h == k) refl
         by (Some y) is = without_it q.handles h k
 
+-- some handles leave, and then others
+pub losing_more : (vs others : List ℕ) (q : Process) → get (losing_all (vs ++ others) q).handles ≡ without_all (get (losing_all vs q).handles) others
+losing_more [] [] q = refl
+losing_more [] (v ∷ others) q = losing_more [] others (process_without v q) ∙ ap (λ f. without_all f others) (losing v q)
+losing_more (v ∷ vs) others q = losing_more vs others (process_without v q)
+
 -- what leaves is what was seen of the consumed operands
 pub losing_seen : (f : Table) (xs : List ℕ) (os : List Operand) (seen : List ℕ) (q : Process) → get q.handles ≡ unseen f seen
     → get (losing_all (map (λ o. o.value) (filter (λ o. o.is_taken) (map (valued xs) os))) q).handles ≡ unseen f (seen_all xs seen os)
@@ -73,7 +81,7 @@ losing_seen f xs (o ∷ os) seen q e = by o.is_taken
     by true a b = a
     by false a b = b
 
--- ---- handles enter, and bytes are stored
+-- ---- handles enter, bytes are stored, and values are kept
 
 pub inserted_here : (es : List Entry) (vs : List ℕ) (w : World) (p : ℕ) (q : Process) → get w.processes p ≡ Some q
     → get (insert_all w p es vs).processes p ≡ Some (getting_all es vs q)
@@ -104,6 +112,16 @@ storing_in (address, b ∷ bytes) q = record q { cpu = record q.cpu { memory = o
 pub stored_here : (at : ℕ × List ℕ) (w : World) (p : ℕ) (q : Process) → get w.processes p ≡ Some q → get (storing w p at).processes p ≡ Some (storing_in at q)
 stored_here (address, []) w p q there = there
 stored_here (address, b ∷ bytes) w p q there = changed_here w p (storing_in (address, b ∷ bytes)) q there
+
+-- the process with the values in a slot array, if one is named
+abbrev pub keeping_in : Option (ℕ × List ℕ) → Process → Process
+keeping_in None q = q
+keeping_in (Some x) q = record q { cpu = record q.cpu { slots = slots_filled q.cpu.slots (Some x) } }
+
+pub kept_here : (kept : Option (ℕ × List ℕ)) (w : World) (p : ℕ) (q : Process) → get w.processes p ≡ Some q
+    → get (keeping w p kept).processes p ≡ Some (keeping_in kept q)
+kept_here None w p q there = there
+kept_here (Some x) w p q there = changed_here w p (keeping_in (Some x)) q there
 
 -- ---- what stays
 

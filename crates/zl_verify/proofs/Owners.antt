@@ -125,7 +125,7 @@ keepers-set v n k x slots less inside =
     omega arith
 
 -- the place is counted, where it has a handle
-one_of : (v k : ℕ) (places : List ℕ) → v ≢ 0 → slice_index places k ≡ v → 1 ≤ places_with v places
+pub one_of : (v k : ℕ) (places : List ℕ) → v ≢ 0 → slice_index places k ≡ v → 1 ≤ places_with v places
 one_of v k places some e =
     let set = sum_by-set (λ y. one_if (is_it v y)) places k 0 0 (inside k places (λ z. some (sym e ∙ z))) in
     let here : one_if (is_it v (slice_index places k)) ≡ 1 = rw (e, it_is_itself v some) refl in
@@ -150,7 +150,7 @@ keepers-at v n k slots some e =
     inside zero (x ∷ xs) h = omega arith
     inside (suc n) (x ∷ xs) h = let m = inside n xs h in omega arith
 
-zero_nowhere : (places : List ℕ) → places_with 0 places ≡ 0
+pub zero_nowhere : (places : List ℕ) → places_with 0 places ≡ 0
 zero_nowhere [] = refl
 zero_nowhere (x ∷ xs) =
     let more = sum_by-cons (λ y. one_if (is_it 0 y)) x xs in

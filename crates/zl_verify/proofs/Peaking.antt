@@ -1,18 +1,21 @@
 -- The largest number of each place, whatever its counters are: it is one of them, and none is larger.
-use Rattle.zl_verify.proofs.Common.{AreCounters, Bool, IfSome, IsNested, List, Mark, None, Option, Some, Targets, [], ap, arith, at, blocks_at, false}
-use Rattle.zl_verify.proofs.Common.{get_or, get_or-set_other, get_or-set_same, inl, inr, length, length-replicate, length-set, max, min, mul-le-mul_right}
-use Rattle.zl_verify.proofs.Common.{nat_le, nat_lt, nat_tests, position, position_or_len, refl, replicate, slice_get, slice_get-get_or, slice_set, subst}
+use Rattle.zl_verify.proofs.Common.{AreCounters, Bool, IfSome, IsNested, List, Mark, None, Option, Some, Targets, [], ap, arith, at, blocks_at, cond, false}
+use Rattle.zl_verify.proofs.Common.{get_or, get_or-set_other, get_or-set_same, inl, inr, length, length-map, length-replicate, length-set, map, max}
+use Rattle.zl_verify.proofs.Common.{min, mul-le-mul_right}
+use Rattle.zl_verify.proofs.Common.{nat_le, nat_lt, nat_tests, not, position, position_or_len, refl, replicate, slice_get, slice_get-get_or, slice_set, subst}
 use Rattle.zl_verify.proofs.Common.{suc, sym, true, zero, ℕ, ◌+◌, ◌-◌, ◌<◌, ◌∙◌, ◌∷◌, ◌≡◌, ◌≢◌, ◌≤◌}
 use Rattle.zl_code.specs.declared.blocks.Mark.TheVariants as mark
 use Rattle.zl_verify.specs.declared.peaks.Unbounded.TheVariants as unbounded
-use Rattle.std.proofs.lemmas.List.{get_or-replicate, get_or_past}
+use Rattle.std.proofs.lemmas.List.{get_or-map, get_or-replicate, get_or_past}
+use Rattle.std.proofs.lemmas.List.Recursion.{is_position_or_len}
 use Rattle.std.proofs.lemmas.List.Quantifiers.{position-Some}
 use Rattle.std.proofs.lemmas.List.Sums.{fails_before_first}
 use Rattle.zl_code.specs.Blocks.{end_of, head_of, imm_of}
 use Rattle.zl_verify.specs.declared.steps.Longest.{Longest}
 use Rattle.zl_verify.specs.Lists.{within}
-use Rattle.zl_verify.specs.Longest.{AreLongest, leaf, pair_at, reach, reach_by}
-use Rattle.zl_verify.specs.Peaks.{AreHomes, ArePeaks, IsBoundOf, IsPeak, IsUnbounded, Reaches, home_behind, number, or_most, pair_in, peak_by, peak_home}
+use Rattle.zl_verify.specs.Longest.{AreLongest, leaf, or_leaf, pair_at, reach, reach_by}
+use Rattle.zl_verify.specs.Peaks.{AreHomes, ArePeaks, IsBoundOf, IsPeak, IsUnbounded, Reaches, home_behind, number, lengths, or_most, pair_in}
+use Rattle.zl_verify.specs.Peaks.{peak_by, peak_home}
 use Rattle.zl_verify.specs.Peaks.{turns_left}
 use Rattle.zl_verify.proofs.Places.{below_or_not, equal_or_not, get_past, set_by}
 use Rattle.zl_verify.proofs.Walking.{AllOpen, Block, Real, are_full, block_at, blocks_next, bounded, end_at, full, less, less_one, no_turns, opens, real_flat}
@@ -26,6 +29,19 @@ no_position p xs n d e h = fails_before_first p xs n d (let k = past_all (nat_lt
     past_all : (b : Bool) → nat_lt (position_or_len p xs) (length xs) ≡ b → length xs ≤ position_or_len p xs
     past_all true q = let found : position p xs ≡ Some (position_or_len p xs) = rw q refl in let z : None ≡ Some (position_or_len p xs) = sym e ∙ found in cc
     past_all false q = grind (arith, nat_tests)
+
+-- the first place is that of what is read of each
+pub position_read : {X : Type 0} (f : X → ℕ) (p : ℕ → Bool) (xs : List X) → position (λ x. p (f x)) xs ≡ position p (map f xs)
+position_read f p xs =
+    rw (
+      length-map xs f,
+      is_position_or_len (λ ys. position_or_len p (map f ys)) (λ x. p (f x)) refl
+          (λ x ys. turned_round (p (f x)) (position_or_len p (map f ys))) xs,
+    ) refl
+  where
+    turned_round : (b : Bool) (n : ℕ) → cond (not b) (1 + n) 0 ≡ cond b 0 (1 + n)
+    turned_round true n = refl
+    turned_round false n = refl
 
 -- ---- what holds of each place of a list, where one was written
 
@@ -207,6 +223,33 @@ module _ (marks : List Mark) (targets : List Targets) (most : ℕ) (pairs : List
     where
       on : ArePeaks marks targets most pairs peaks (p - 1 + 1)
       on = let z : p ≡ p - 1 + 1 = omega arith in subst (λ (n : ℕ). ArePeaks marks targets most pairs peaks n) z a
+
+  -- in a program without blocks they are the most steps within none
+  pub flat_peaks : ((n : ℕ) → blocks_at marks n ≡ []) → ArePeaks marks targets most pairs (lengths most pairs) 0
+  flat_peaks flat = record {
+    long = length-map pairs (λ o. (or_most most o).within) ∙ are.long;
+    peak = λ n h. rw (length_at n) (record {
+      upper = λ cs c. rw (number_is marks targets most pairs cs n)
+          (upper_flat n (blocks_at marks n) (flat n) cs c);
+      real = reached_full n (V n).within (omega arith);
+    });
+  }
+    where
+      upper_flat : (n : ℕ) (rs : List ℕ) → rs ≡ [] → (cs : List ℕ) → AreCounters marks rs cs
+          → min (reach (V n) (behind_end marks targets most pairs rs cs)) most ≤ (V n).within
+      upper_flat n [] e [] c = omega arith
+      upper_flat n [] e (i ∷ cs) c = absurd c
+      upper_flat n (r ∷ rs) e cs c = absurd (cc)
+
+      here : (n : ℕ) → n < length pairs → get_or pairs n None ≡ pair_at pairs n
+      here n h = ap or_leaf (sym (slice_get-get_or pairs n None h))
+
+      length_at : (n : ℕ) → get_or (lengths most pairs) n 0 ≡ (V n).within
+      length_at n = elim (below_or_not n (length pairs)) [
+        | inl h ↦ get_or-map (λ o. (or_most most o).within) pairs n None 0 h ∙ ap (λ o. (or_most most o).within) (here n h)
+        | inr h ↦ get_or_past (lengths most pairs) n 0 (omega (arith, length-map pairs (λ o. (or_most most o).within)))
+            ∙ ap (λ (o : Option (Option Longest)). (or_most most (or_leaf o)).within) (sym (get_past pairs n h))
+      ]
 
   -- ---- what is over, and what isn't
 

@@ -3,32 +3,34 @@ use Rattle.zl_verify.proofs.Common.{ANY, AllByRecursion, Body, Bool, CallInstr, 
 use Rattle.zl_verify.proofs.Common.{IsSizedCpu, IsSizedMessage, IsSizedObject, IsSizedPacket, IsSound, IsSoundTable, JobBody, KILLED, Library, List, Message}
 use Rattle.zl_verify.proofs.Common.{None, Object, Option, Outcome, Packet, PairEnd, PortBody, Process, ProcessBody, Request, Setting, Site, Some, Status, World}
 use Rattle.zl_verify.proofs.Common.{[], after_ok, after_refusal, and_le_l, ap, arith, awaited_by, bit_and, bit_xor, body_after_read, body_killed, body_of}
-use Rattle.zl_verify.proofs.Common.{body_packed, body_with_message, body_with_policy, both, cases_Bool, chan_create, chan_read_etc, chan_write, changed}
-use Rattle.zl_verify.proofs.Common.{choosing, cpu_answered, created_process, drop, effect, entering_at, entries_at, entry_at, eqb-true, event_create}
-use Rattle.zl_verify.proofs.Common.{eventpair_create, false, filter, first_bytes, first_handles, first_values, get, get_without, gets_all, gives_ok}
-use Rattle.zl_verify.proofs.Common.{gives_refused, gone_without, has_key, if◌then◌else◌, inl, inr, insert_all, is_by_handle, is_keyed, is_some, is_too_large}
-use Rattle.zl_verify.proofs.Common.{is_value, is_within, job_create, job_set_policy, job_within, length, listed, lives, may_change, may_choose, may_get_after}
-use Rattle.zl_verify.proofs.Common.{may_get_all, nat_lt, nat_tests, new_handles, not, object_at, object_killed, ok_outcome, on_process, option_to_list}
-use Rattle.zl_verify.proofs.Common.{packets_at, packets_in, peer_at, port_cancel, port_create, port_poll, port_queue, port_wait, process_create, process_killed}
-use Rattle.zl_verify.proofs.Common.{process_start, process_with, process_without, queue_at, queue_of, receiver_of, refl, refusal, reg, remove_all, replace}
-use Rattle.zl_verify.proofs.Common.{replied, runs, same_Some, settable_of, setting_of, signal, signal_peer, site_of, slice_get, slice_index, source_at}
-use Rattle.zl_verify.proofs.Common.{started_with, status_magnitude, stored_by, subst, suc, sym, taken, taken_handles, task_kill, told_of, true, wait_async}
-use Rattle.zl_verify.proofs.Common.{wait_of, wait_one, wait_poll, with_effect, with_killed, with_object, within, without, written, ℕ, ⊤, ◌++◌, ◌+◌, ◌==◌, ◌||◌}
-use Rattle.zl_verify.proofs.Common.{◌∙◌, ◌∷◌, ◌≡◌, ◌≤◌, ◌⊎◌}
+use Rattle.zl_verify.proofs.Common.{body_packed, body_with_message, body_with_policy, both, cases_Bool, chan_create, chan_read_etc, chan_read_slots, chan_write}
+use Rattle.zl_verify.proofs.Common.{chan_write_slots, changed, choosing, cpu_answered, created_process, drop, effect, entering_at, entries_at, entry_at}
+use Rattle.zl_verify.proofs.Common.{eqb-true, event_create, eventpair_create, false, filter, first_bytes, first_handles, first_values, get, get_without}
+use Rattle.zl_verify.proofs.Common.{gets_all, gives_ok, gives_refused, gone_without, handle_info, has_key, if◌then◌else◌, info_of, inl, inr, insert_all}
+use Rattle.zl_verify.proofs.Common.{is_by_handle, is_keyed, is_some, is_too_large, is_value, is_within, job_create, job_set_policy, job_within, kept_by, length}
+use Rattle.zl_verify.proofs.Common.{listed, lives, may_change, may_choose, may_get_after, may_get_all, nat_lt, nat_tests, new_handles, not, object_at}
+use Rattle.zl_verify.proofs.Common.{object_killed, ok_outcome, on_process, option_map, option_to_list, packets_at, packets_in, peer_at, port_cancel}
+use Rattle.zl_verify.proofs.Common.{port_create, port_poll, port_queue, port_wait, process_create, process_killed, process_start, process_with, process_without}
+use Rattle.zl_verify.proofs.Common.{queue_at, queue_of, receiver_of, refl, refusal, reg, remove_all, replace, replicate, replied, runs, same_Some, settable_of}
+use Rattle.zl_verify.proofs.Common.{setting_of, signal, signal_peer, site_of, slice_get, slice_index, source_at, started_with, status_magnitude, stored_by}
+use Rattle.zl_verify.proofs.Common.{subst, suc, sym, take, taken, taken_handles, task_kill, told_of, true, wait_async, wait_of, wait_one, wait_poll}
+use Rattle.zl_verify.proofs.Common.{with_effect, with_killed, with_object, within, without, written, zero, zeros_for, ℕ, ⊤, ◌++◌, ◌+◌, ◌==◌, ◌||◌, ◌∙◌, ◌∷◌}
+use Rattle.zl_verify.proofs.Common.{◌≡◌, ◌≤◌, ◌⊎◌}
 use Rattle.zl_rights.specs.Packets.{user_packet, is_from}
 use Rattle.zl_rights.specs.declared.status.Status.TheVariants as status
 use Rattle.zl_code.specs.declared.history.Outcome.TheVariants as outcome
 use Rattle.zl_code.specs.declared.history.CallName.TheVariants as name
 use Rattle.zl_verify.proofs.CallEnds.{call_ends}
+use Rattle.zl_verify.proofs.Emptying.{left_slots}
 use Rattle.zl_verify.proofs.Memories.{AreBytes, all_taken, all_dropped}
-use Rattle.zl_verify.proofs.Calm.{both_few, within_few, first_sizes, first_are_bytes, first_rights, packets_at_sized}
+use Rattle.zl_verify.proofs.Calm.{both_few, within_few, first_sizes, first_are_bytes, entry_rights, first_rights, packets_at_sized}
 use Rattle.zl_verify.proofs.Giving.{status_few, kind_few, HasFewRights}
 use Rattle.zl_verify.proofs.Sites.{call, AtSite, of_site}
 use Rattle.zl_code.proofs.Passing.{listed_none, test_fails, test_passes}
-use Rattle.zl_verify.proofs.SizedCpus.{AreSmall, registers_written, answered_sized, blank_sized, started_sized}
+use Rattle.zl_verify.proofs.SizedCpus.{AreSmall, AreSmallIn, registers_written, answered_sized, blank_sized, slots_narrow, started_sized}
 use Rattle.zl_verify.proofs.SizedWorlds.{pair_sized, IsSizedProcess, IsSizedAt, all_filtered, all_behind, each_update, each_each, queues_sized, active_sized}
-use Rattle.zl_verify.proofs.SizedWorlds.{process_sized, one_sized, new_process_sized, removed_sized, inserted_sized, stored_sized, ended_sized, waiting_sized}
-use Rattle.zl_verify.proofs.SizedWorlds.{object_sized, new_object_sized, fewer_waits, wait_sized}
+use Rattle.zl_verify.proofs.SizedWorlds.{process_sized, one_sized, new_process_sized, removed_sized, inserted_sized, kept_sized, stored_sized, ended_sized}
+use Rattle.zl_verify.proofs.SizedWorlds.{waiting_sized, object_sized, new_object_sized, fewer_waits, wait_sized}
 
 -- ---- what is asked for
 
@@ -36,15 +38,21 @@ use Rattle.zl_verify.proofs.SizedWorlds.{object_sized, new_object_sized, fewer_w
 abbrev pub IsSizedRequest : Request → Type 0
 IsSizedRequest (replace h rights) = h ≤ ANY
 IsSizedRequest (chan_write c bytes hs) = AreBytes bytes
+IsSizedRequest (chan_write_slots c bytes hs) = AreBytes bytes
 IsSizedRequest (wait_async h port key mask) = (key ≤ ANY) × (mask ≤ ANY)
 IsSizedRequest (port_queue port key value) = (key ≤ ANY) × (value ≤ ANY)
 IsSizedRequest (process_start process h word) = word ≤ ANY
 IsSizedRequest _ = ⊤
 
+-- bytes that are read from the memory
+range_sized : (c : Cpu) → IsSizedCpu c → (rs : List ℕ) → AreBytes (take (reg c (slice_index rs 3)) (drop (reg c (slice_index rs 2)) c.memory))
+range_sized c h rs =
+    let at = reg c (slice_index rs 2) in all_taken (reg c (slice_index rs 3)) (drop at c.memory) (all_dropped at c.memory h.bytes)
+
 sized_by : (c : Cpu) → IsSizedCpu c → (n : CallName) (rs last : List ℕ) → AtSite c (call n rs last) (λ t. IsSizedRequest t.request)
 sized_by c h name.Replace rs last = h.small (slice_index rs 1)
-sized_by c h name.ChanWrite rs last =
-    let at = reg c (slice_index rs 2) in all_taken (reg c (slice_index rs 3)) (drop at c.memory) (all_dropped at c.memory h.bytes)
+sized_by c h name.ChanWrite rs last = range_sized c h rs
+sized_by c h name.ChanWriteSlots rs last = range_sized c h rs
 sized_by c h name.WaitAsync rs last = (h.small (slice_index rs 3), h.small (slice_index rs 4))
 sized_by c h name.PortQueue rs last = (h.small (slice_index rs 2), h.small (slice_index rs 3))
 sized_by c h name.ProcessStart rs last = h.small (slice_index rs 3)
@@ -118,6 +126,7 @@ module _ (w : World) (p : ℕ) (s : IsSized w) where
   refused_small : (r : Request) (st : Status) → AreSmall (gives_refused w p r st)
   unfolding gives_refused
   refused_small (chan_read_etc c address room places) status.BufferTooSmall = let few = sizes_small c in (few.0, (few.1, tt))
+  refused_small (chan_read_slots c address room array places) status.BufferTooSmall = let few = sizes_small c in (few.0, (few.1, tt))
   refused_small (wait_poll h mask) status.TimedOut = (active_sized w s (object_at w p h), tt)
   refused_small _ _ = tt
 
@@ -126,6 +135,12 @@ module _ (w : World) (p : ℕ) (s : IsSized w) where
   given_small sound (replace h rights) fits vs few = (fits, tt)
   given_small sound (chan_read_etc c address room places) fits vs few =
       let sizes = sizes_small c in (sizes.0, (sizes.1, told_small (first_handles (queue_at w p c)) vs (first_rights w sound p c) few))
+  given_small sound (chan_read_slots c address room array places) fits vs few = let sizes = sizes_small c in (sizes.0, (sizes.1, tt))
+  given_small sound (handle_info h) fits vs few = by (entry_at w p h) refl
+    where
+      by : (o : Option Entry) → entry_at w p h ≡ o → AreSmall (info_of o)
+      by None is = tt
+      by (Some e) is = (kind_few e.kind, (entry_rights w sound p h e is, tt))
   given_small sound (wait_one h mask) fits vs few = (active_sized w s (object_at w p h), tt)
   given_small sound (wait_poll h mask) fits vs few = (active_sized w s (object_at w p h), tt)
   given_small sound (port_wait port) fits vs few = packet_small (packets_at w p port) (packets_at_sized w (queues_sized w s) p port)
@@ -135,7 +150,13 @@ module _ (w : World) (p : ℕ) (s : IsSized w) where
 
   stored_are_bytes : (r : Request) → AreBytes (stored_by w p r).1
   stored_are_bytes (chan_read_etc c address room places) = first_are_bytes w (queues_sized w s) p c
+  stored_are_bytes (chan_read_slots c address room array places) = first_are_bytes w (queues_sized w s) p c
   stored_are_bytes _ = λ k. omega arith
+
+-- what is kept in slots
+kept_small : (r : Request) (vs : List ℕ) → AreSmall vs → AreSmallIn (kept_by r vs)
+kept_small (chan_read_slots c address room array places) vs few = few
+kept_small _ vs few = tt
 
 -- ---- what is done
 
@@ -239,6 +260,12 @@ module _ (lib : Library) (w : World) (p : ℕ) (u : World) (s : IsSized u) (vs :
       (λ o k. message_comes _ (message_sized w p bytes hs fits (test_fails _ status.OutOfRange (listed_none lib w p (chan_write c bytes hs) passes).1.0))
       o.body o.raised k) s
   effect_sized (chan_read_etc c address room places) fits passes = object_sized u (object_at w p c) _ (λ o k. message_goes o.body o.raised k) s
+  effect_sized (chan_write_slots c bytes hs) fits passes =
+      object_sized u (peer_at w p c) _
+      (λ o k. message_comes _ (message_sized w p bytes hs fits (test_fails _ status.OutOfRange (listed_none lib w p (chan_write_slots c bytes hs) passes).1.0))
+      o.body o.raised k) s
+  effect_sized (chan_read_slots c address room array places) fits passes =
+      object_sized u (object_at w p c) _ (λ o k. message_goes o.body o.raised k) s
   effect_sized event_create fits passes = new_object_sized u EventBody (empty_sized _ refl refl) s
   effect_sized eventpair_create fits passes =
       pair_sized u (PairEnd (w.next_koid + 1)) (PairEnd w.next_koid) (empty_sized _ refl refl) (empty_sized _ refl refl) s
@@ -273,12 +300,27 @@ module _ (lib : Library) (w : World) (p : ℕ) (u : World) (s : IsSized u) (vs :
 
 -- ---- how it ends
 
+-- 0 is small, where places are emptied too
+zeros_small : (n : ℕ) → AreSmall (replicate n 0)
+zeros_small zero = tt
+zeros_small (suc n) = (omega arith, zeros_small n)
+
+emptied_small : (emptied : Option (ℕ × ℕ)) → AreSmallIn (option_map zeros_for emptied)
+emptied_small None = tt
+emptied_small (Some x) = zeros_small x.1
+
 replied_sized : (w : World) (p : ℕ) (t : Site) (answer : Status) (values : List ℕ) → AreSmall values → IsSized w → IsSized (replied w p t answer values)
 unfolding replied
 replied_sized w p t answer values few s =
     process_sized w p (λ q. record q { cpu = cpu_answered t answer values q.cpu })
-    (λ q k. answered_sized (record q.cpu { registers = written q.cpu.registers t.consumed [] }) t.destinations (status_magnitude answer ∷ values)
-    (record { small = registers_written t.consumed [] q.cpu.registers tt k.small; bytes = k.bytes; narrow = k.narrow })
+    (λ q k. answered_sized
+    (record q.cpu { registers = written q.cpu.registers t.consumed []; slots = left_slots q.cpu.slots t.emptied })
+    t.destinations (status_magnitude answer ∷ values)
+    (record {
+      small = registers_written t.consumed [] q.cpu.registers tt k.small;
+      bytes = k.bytes;
+      narrow = slots_narrow q.cpu.slots (option_map zeros_for t.emptied) (emptied_small t.emptied) k.narrow;
+    })
     (let le = status_few answer in omega arith, few)) s
 
 module _ (lib : Library) (w : World) (p : ℕ) (sound : IsSound w) (s : IsSized w) (t : Site) (fits : IsSizedRequest t.request) where
@@ -311,10 +353,11 @@ module _ (lib : Library) (w : World) (p : ℕ) (sound : IsSound w) (s : IsSized 
 
   done_sized : refusal lib w p t.request ≡ None → (vs : List ℕ) → AreSmall vs → IsSized (with_effect lib w (taken w p t) p t.request vs)
   done_sized passes vs few =
-      stored_sized (insert_all (effect lib w (taken w p t) p t.request vs) (receiver_of w p t.request) (new_handles w p t.request) (entering_at t.request vs)) p
-      (stored_by w p t.request) (stored_are_bytes w p s t.request)
+      kept_sized _ p (kept_by t.request vs) (kept_small t.request vs few)
+      (stored_sized (insert_all (effect lib w (taken w p t) p t.request vs) (receiver_of w p t.request) (new_handles w p t.request) (entering_at t.request vs))
+      p (stored_by w p t.request) (stored_are_bytes w p s t.request)
       (inserted_sized (effect lib w (taken w p t) p t.request vs) (receiver_of w p t.request) (new_handles w p t.request) (entering_at t.request vs)
-      (effect_sized lib w p (taken w p t) taken_sized vs few t.request fits passes))
+      (effect_sized lib w p (taken w p t) taken_sized vs few t.request fits passes)))
 
   ok_sized : refusal lib w p t.request ≡ None → (vs : List ℕ) → may_choose w (taken w p t) p t.request vs ≡ true → (o : Outcome)
       → IsSized (after_ok lib w p t vs o)

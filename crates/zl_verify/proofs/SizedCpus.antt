@@ -2,13 +2,15 @@
 use Rattle.zl_verify.proofs.Common.{ANY, AllByRecursion, Bool, Cpu, IfSome, IsSizedCpu, List, LocalInstr, None, Option, Program, SlotArray, Some, [], and_le_l}
 use Rattle.zl_verify.proofs.Common.{answered, arith, bit_and, blank_cpu, bytes_of, cpu_given, drop, false, get_or_from_slice_get, if◌then◌else◌, is_in_memory}
 use Rattle.zl_verify.proofs.Common.{is_local_in_range, length, local_effect, local_parts, map, nat_lt, number_of, overwritten, refl, reg, replicate, set_from}
-use Rattle.zl_verify.proofs.Common.{sets, shifted, slice_get, slice_index, slice_index_or, slice_set, subst, suc, swaps, take, true, with_handles, written}
-use Rattle.zl_verify.proofs.Common.{zero, ℕ, ◌+◌, ◌-◌, ◌<◌, ◌^◌, ◌∷◌, ◌≡◌, ◌≤◌}
+use Rattle.zl_verify.proofs.Common.{sets, shifted, slice_get, slice_index, slice_index_or, slice_set, slots_filled, subst, suc, swaps, take, true, with_handles}
+use Rattle.zl_verify.proofs.Common.{written, zero, ℕ, ◌++◌, ◌+◌, ◌-◌, ◌<◌, ◌^◌, ◌∷◌, ◌≡◌, ◌≤◌}
+use Rattle.zl_code.specs.Effects.{filled_in}
 use Rattle.zl_code.specs.Local.{loads, stores, swaps_in, turns_by}
 use Rattle.zl_code.specs.declared.instr.LocalInstr.TheVariants as local
 use Rattle.zl_verify.proofs.Agreeing.{wrapped_few, or_few, xor_few, up_few, down_less, imm_in}
 use Rattle.zl_verify.proofs.Memories.{byte_less, word_less, bytes_over, all_of}
 use Rattle.std.proofs.lemmas.Bool.{cond_both}
+use Rattle.std.proofs.lemmas.List.{get_or-drop}
 
 -- ---- lists by their places
 
@@ -34,6 +36,12 @@ each_made P d f [] here all k = here
 each_made P d f (x ∷ xs) here all zero = all x
 each_made P d f (x ∷ xs) here all (suc k) = each_made P d f xs here all k
 
+-- what stands in a list goes before what is left of another
+pub each_in_front : {X : Type 0} (P : X → Type 0) (d : X) (xs ys : List X) (n : ℕ) → AllByRecursion P xs → AtEach P d ys → AtEach P d (xs ++ drop n ys)
+each_in_front P d [] ys n all h k = rw (get_or-drop n ys k d) (h (n + k))
+each_in_front P d (x ∷ xs) ys n (one, all) h zero = one
+each_in_front P d (x ∷ xs) ys n (one, all) h (suc k) = each_in_front P d xs ys n all h k
+
 -- each number of the list has 64 bits
 abbrev pub AreSmall : List ℕ → Type 0
 AreSmall vs = AllByRecursion (λ v. v ≤ ANY) vs
@@ -56,6 +64,24 @@ registers_written (d ∷ ds) (v ∷ vs) xs (one, more) h = registers_written ds 
 pub answered_sized : (c : Cpu) (ds vs : List ℕ) → IsSizedCpu c → AreSmall vs → IsSizedCpu (answered c ds vs)
 unfolding answered
 answered_sized c ds vs h few = record { small = registers_written ds vs c.registers few h.small; bytes = h.bytes; narrow = h.narrow }
+
+-- ---- slot arrays
+
+-- the values that go into slots, if any do
+abbrev pub AreSmallIn : Option (ℕ × List ℕ) → Type 0
+AreSmallIn None = Unit {0}
+AreSmallIn (Some x) = AreSmall x.1
+
+pub slots_narrow : (slots : List (List ℕ)) (kept : Option (ℕ × List ℕ)) → AreSmallIn kept → AtEach (AtEach IsSmall 0) [] slots
+    → AtEach (AtEach IsSmall 0) [] (slots_filled slots kept)
+slots_narrow slots None few h = h
+slots_narrow slots (Some (n, vs)) few h = by (slice_get slots n) refl
+  where
+    by : (o : Option (List ℕ)) → slice_get slots n ≡ o → AtEach (AtEach IsSmall 0) [] (filled_in slots n vs o)
+    by None is = h
+    by (Some places) is =
+        each_set (AtEach IsSmall 0) [] slots n (overwritten places 0 vs)
+        (each_in_front IsSmall 0 vs places _ few (subst (AtEach IsSmall 0) (get_or_from_slice_get slots n places [] is) (h n))) h
 
 -- ---- a Cpu that starts
 

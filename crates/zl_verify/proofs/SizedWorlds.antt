@@ -2,16 +2,16 @@
 use Rattle.zl_code.proofs.Common.{Wait, each, holds, is_made_by_handle}
 use Rattle.zl_verify.proofs.Common.{ANY, AllByRecursion, Awaited, Blocked, Body, Bool, Ended, Entry, IsSized, IsSizedCpu, IsSizedObject, IsSizedPacket}
 use Rattle.zl_verify.proofs.Common.{IsSizedWait, List, None, Object, Option, Packet, PortBody, Process, QueuesAreSized, Settles, Some, World, [], active, arith}
-use Rattle.zl_verify.proofs.Common.{body_with_packets, cond, ended, false, filter, fired, has_key, if◌then◌else◌, insert_all, lives, made_ready, map, not}
-use Rattle.zl_verify.proofs.Common.{on_object, on_process, overwritten, packet_values, packets_for, process_ended, process_settled, process_with}
-use Rattle.zl_verify.proofs.Common.{process_without, registered, remove_all, storing, subst, true, waiting, wakes, with_body, with_object, with_process}
-use Rattle.zl_verify.proofs.Common.{without, without_others, woken, ℕ, ℤ, ◌&&◌, ◌++◌, ◌==◌, ◌∷◌, ◌≤◌}
+use Rattle.zl_verify.proofs.Common.{body_with_packets, cond, ended, false, filter, fired, has_key, if◌then◌else◌, insert_all, keeping, lives, made_ready, map}
+use Rattle.zl_verify.proofs.Common.{not, on_object, on_process, overwritten, packet_values, packets_for, process_ended, process_settled, process_with}
+use Rattle.zl_verify.proofs.Common.{process_without, registered, remove_all, slots_filled, storing, subst, true, waiting, wakes, with_body, with_object}
+use Rattle.zl_verify.proofs.Common.{with_process, without, without_others, woken, ℕ, ℤ, ◌&&◌, ◌++◌, ◌==◌, ◌∷◌, ◌≤◌}
 use Rattle.zl_rights.specs.Wakes.{packet_of}
 use Rattle.zl_code.proofs.MapKept.{each_put, each_where_key}
 use Rattle.zl_verify.proofs.Waking.{turn_by, wakes_by}
 use Rattle.zl_verify.proofs.Memories.{AreBytes, bytes_over}
 use Rattle.zl_verify.proofs.Calm.{active_few}
-use Rattle.zl_verify.proofs.SizedCpus.{AreSmall, answered_sized}
+use Rattle.zl_verify.proofs.SizedCpus.{AreSmall, AreSmallIn, answered_sized, slots_narrow}
 pub use Rattle.zl_code.proofs.ProgramsKept.{each_each, each_update}
 
 -- ---- lists
@@ -82,6 +82,12 @@ stored_sized w p (address, []) are s = s
 stored_sized w p (address, b ∷ bytes) are s =
     process_sized w p (λ q. record q { cpu = record q.cpu { memory = overwritten q.cpu.memory address (b ∷ bytes) } })
     (λ q k. record { small = k.small; bytes = bytes_over q.cpu.memory (b ∷ bytes) address k.bytes are; narrow = k.narrow }) s
+
+pub kept_sized : (w : World) (p : ℕ) (kept : Option (ℕ × List ℕ)) → AreSmallIn kept → IsSized w → IsSized (keeping w p kept)
+kept_sized w p None few s = s
+kept_sized w p (Some x) few s =
+    process_sized w p (λ q. record q { cpu = record q.cpu { slots = slots_filled q.cpu.slots (Some x) } })
+    (λ q k. record { small = k.small; bytes = k.bytes; narrow = slots_narrow q.cpu.slots (Some x) few k.narrow }) s
 
 pub ended_sized : (w : World) (p : ℕ) (code : ℤ) → IsSized w → IsSized (ended w p code)
 unfolding ended

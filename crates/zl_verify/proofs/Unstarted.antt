@@ -3,7 +3,7 @@ use Rattle.zl_verify.proofs.Common.{Acts, AtCall, Awaited, Blocked, Bool, Calls,
 use Rattle.zl_verify.proofs.Common.{Option, Outcome, Process, ProcessBody, Ready, Request, Site, Some, TraceItem, World, [], after_ok, after_refusal, ap}
 use Rattle.zl_verify.proofs.Common.{awaited_by, cases_Bool, cpu_answered, created_process, effect, ended, ends_caller, entering_at, eq-eqb, eqb-true, false}
 use Rattle.zl_verify.proofs.Common.{get, get-each, get-put, get-update, gives_ok, gives_refused, has_ended, if◌then◌else◌, inl, inr, insert_all, is_created}
-use Rattle.zl_verify.proofs.Common.{is_within, left_behind, new_handles, object_at, ok_outcome, on_object, on_process, option_map, process_create}
+use Rattle.zl_verify.proofs.Common.{is_within, kept_by, left_behind, new_handles, object_at, ok_outcome, on_object, on_process, option_map, process_create}
 use Rattle.zl_verify.proofs.Common.{process_ended, process_killed, process_start, process_with, put, receiver_of, refl, refusal, replied, same_Some}
 use Rattle.zl_verify.proofs.Common.{started_with, stored_by, subst, sym, taken, taken_handles, task_kill, true, waiting, with_effect, with_killed, with_object}
 use Rattle.zl_verify.proofs.Common.{ℕ, ℤ, ◌<◌, ◌==◌, ◌∙◌, ◌∷◌, ◌≡◌, ◌⊎◌}
@@ -12,10 +12,10 @@ use Rattle.zl_code.specs.declared.history.Outcome.TheVariants as outcome
 use Rattle.zl_verify.proofs.CallEnds.{call_ends}
 use Rattle.zl_verify.proofs.Giving.{getting_all}
 use Rattle.zl_verify.proofs.OwnTable.{changed_here, changed_elsewhere, inserted_elsewhere, own_handles, losing_all, losing_same, removed_here, getting_same}
-use Rattle.zl_verify.proofs.Storing.{storing_same}
-use Rattle.zl_verify.proofs.OwnEffect.{IsDone, caller_after, caller_ending, inserted_objects, stored_objects}
+use Rattle.zl_verify.proofs.Storing.{keeping_same, storing_same}
+use Rattle.zl_verify.proofs.OwnEffect.{IsDone, caller_after, caller_ending, inserted_objects, kept_objects, stored_objects}
 use Rattle.zl_verify.proofs.Others.{not_created}
-use Rattle.zl_code.proofs.Frame.{left_other, stored_other, ended_other, waiting_other, replied_other}
+use Rattle.zl_code.proofs.Frame.{kept_other, left_other, stored_other, ended_other, waiting_other, replied_other}
 
 -- ---- where such a process comes from
 
@@ -155,8 +155,9 @@ module _ (lib : Library) (w : World) (p : ℕ) (caller : Process) (there : get w
         by None goes = (
           _,
           caller_after t.request lib w (taken w p t) p done goes vs (lost t) (lost_there t),
-          inl ((storing_same (stored_by w p t.request) (getting_all (own_handles w p t.request) (entering_at t.request vs) (lost t))).state
-              ∙ ((getting_same (own_handles w p t.request) (entering_at t.request vs) (lost t)).state ∙ lost_ready t)),
+          inl ((keeping_same (kept_by t.request vs) _).state
+              ∙ ((storing_same (stored_by w p t.request) (getting_all (own_handles w p t.request) (entering_at t.request vs) (lost t))).state
+              ∙ ((getting_same (own_handles w p t.request) (entering_at t.request vs) (lost t)).state ∙ lost_ready t))),
         )
         by (Some code) is = caller_ending t.request lib w (taken w p t) p code is vs (lost t) (lost_there t) (lost_ready t)
 
@@ -164,9 +165,10 @@ module _ (lib : Library) (w : World) (p : ℕ) (caller : Process) (there : get w
     made_objects : (vs : List ℕ) (h program : ℕ) → t.request ≡ process_create h program
         → (with_effect lib w (taken w p t) p t.request vs).objects ≡ put w.objects w.next_koid (record { body = ProcessBody (object_at w p h); raised = 0 })
     made_objects vs h program is =
-        stored_objects (stored_by w p t.request) _ p
+        kept_objects (kept_by t.request vs) _ p
+        ∙ (stored_objects (stored_by w p t.request) _ p
         ∙ (inserted_objects (new_handles w p t.request) (entering_at t.request vs) (effect lib w (taken w p t) p t.request vs) (receiver_of w p t.request)
-        ∙ (ap (λ r. (effect lib w (taken w p t) p r vs).objects) is ∙ one_object lib w (taken w p t) p h program vs done.objects done.koids))
+        ∙ (ap (λ r. (effect lib w (taken w p t) p r vs).objects) is ∙ one_object lib w (taken w p t) p h program vs done.objects done.koids)))
 
     -- behind a call that isn't refused, in a world that differs at p alone
     comes_so : (vs : List ℕ) (v : World) (q : ℕ) → (p == q) ≡ false → get v.processes q ≡ get (with_effect lib w (taken w p t) p t.request vs).processes q
@@ -174,7 +176,7 @@ module _ (lib : Library) (w : World) (p : ℕ) (caller : Process) (there : get w
         → (y : Process) → get v.processes q ≡ Some y → is_created y.state ≡ true → Comes lib w v p q y
     comes_so vs v q apart same objects y at new =
         by (comes p q apart lib w (taken w p t) y new t.request vs (entering_at t.request vs) (new_handles w p t.request)
-        (sym (stored_other p q apart (stored_by w p t.request) _) ∙ (sym same ∙ at)))
+        (sym (stored_other p q apart (stored_by w p t.request) _) ∙ (sym (kept_other p q apart (kept_by t.request vs) _) ∙ (sym same ∙ at))))
       where
         by : Origin lib w (taken w p t) q t.request y → Comes lib w v p q y
         by (from_before is) = was (sym (left_other p q apart (taken_handles t.request) w) ∙ is)

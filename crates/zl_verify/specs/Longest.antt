@@ -148,10 +148,13 @@ pub record Given (marks : List Mark) (targets : List Targets) (most : ℕ) (pair
   pub same : (n : ℕ) → n < length pairs → IfSome (pair_at pairs n) (IsPairOf marks targets most (pair_at pairs) n)
   pub real : (n : ℕ) → IfSome (pair_at pairs n) (IsReal marks targets n)
 
--- from this place on, none without a pair can be given one
+-- if the place has no pair, it can be given none
+abbrev pub IsStuckAt : List Mark → List Targets → ℕ → List (Option Longest) → ℕ → Type 0
+IsStuckAt marks targets most pairs n = at pairs n ≡ None → longest_of marks targets most (pair_at pairs) n ≡ None
+
+-- so it is from this place on
 abbrev pub IsStuckFrom : List Mark → List Targets → ℕ → List (Option Longest) → ℕ → Type 0
-IsStuckFrom marks targets most pairs p =
-    (n : ℕ) → p ≤ n → n < length pairs → at pairs n ≡ None → longest_of marks targets most (pair_at pairs) n ≡ None
+IsStuckFrom marks targets most pairs p = (n : ℕ) → p ≤ n → n < length pairs → IsStuckAt marks targets most pairs n
 
 abbrev pub one_if_none : Option Longest → ℕ
 one_if_none None = 1

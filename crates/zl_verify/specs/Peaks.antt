@@ -1,5 +1,6 @@
 -- The number of a place with its counters, by longest ways within blocks, and the largest number of a place.
-use Rattle.std.specs.Prelude.{ℕ, suc, ◌≡◌, ◌==◌, ◌+◌, ◌-◌, ◌*◌, ◌<◌, ◌≤◌, min, max, if◌then◌else◌, List, [], ◌∷◌, length, Option, Some, None, slice_get, get_or}
+use Rattle.std.specs.Prelude.{ℕ, suc, ◌≡◌, ◌==◌, ◌+◌, ◌-◌, ◌*◌, ◌<◌, ◌≤◌, min, max, if◌then◌else◌, List, [], ◌∷◌, length, map, nat_le, Option, Some, None, slice_get, get_or}
+use Rattle.std.specs.List.{position}
 use Rattle.zl_code.specs.declared.blocks.Mark.{Mark}
 use Rattle.zl_code.specs.declared.blocks.Mark.TheVariants as mark
 use Rattle.zl_code.specs.Blocks.{marks_of, blocks_at, AreCounters, head_of, end_of}
@@ -44,6 +45,10 @@ or_most most (Some w) = w
 -- the pair of each place; without one as many steps as are too many
 abbrev pub pair_in : ℕ → List (Option Longest) → ℕ → Longest
 pair_in most pairs n = or_most most (pair_at pairs n)
+
+-- the most steps from each place within its block, or as many as are too many
+abbrev pub lengths : ℕ → List (Option Longest) → List ℕ
+lengths most pairs = map (λ pair. (or_most most pair).within) pairs
 
 -- the numbers for which these pairs stand, each of an instruction with counters
 abbrev pub numbers_by : Image → List (Option Longest) → ℕ → List ℕ → ℕ
@@ -91,6 +96,12 @@ pub record IsPeak (marks : List Mark) (targets : List Targets) (most : ℕ) (pai
 pub record ArePeaks (marks : List Mark) (targets : List Targets) (most : ℕ) (pairs : List (Option Longest)) (peaks : List ℕ) (p : ℕ) : Type 0 where
   pub long : length peaks ≡ length marks
   pub peak : (n : ℕ) → p ≤ n → IsPeak marks targets most pairs n (get_or peaks n 0)
+
+-- the first place whose largest number is so large, if there is one
+pub record IsFirstOver (marks : List Mark) (targets : List Targets) (most : ℕ) (pairs : List (Option Longest)) (found : Option ℕ) : Type 0 where
+  pub peaks : List ℕ
+  pub are : ArePeaks marks targets most pairs peaks 0
+  pub first : found ≡ position (nat_le most) peaks
 
 -- ---- the bound
 

@@ -8,7 +8,7 @@ ghost use Rattle.zl_code.specs.Limits.{most_instructions};
 ghost use Rattle.zl_verify.specs.Lists.{at};
 ghost use Rattle.zl_verify.specs.Nested.{IsNested};
 ghost use Rattle.zl_verify.specs.Longest.{AreLongest};
-ghost use Rattle.zl_verify.specs.Peaks.{AreHomes, ArePeaks, IsBoundOf, IsUnbounded, home_behind, turns_left, number, numbers_by, or_most, pair_in, peak_by, peak_home};
+ghost use Rattle.zl_verify.specs.Peaks.{AreHomes, ArePeaks, IsBoundOf, IsFirstOver, IsUnbounded, lengths, home_behind, turns_left, number, numbers_by, or_most, pair_in, peak_by, peak_home};
 
 use crate::steps::{Longest, Targets, cap, longest_ways, pair_at};
 use std::alloc::{AllocError, Global};
@@ -171,6 +171,34 @@ fn first_over(peaks: &[u32], most: u32) -> Option<usize>
     peaks.iter().position(|peak| *peak >= most)
 }
 
+/// The same in a program without blocks, where these are all the steps that there are.
+fn first_long(pairs: &[Option<Longest>], most: u32) -> Option<usize>
+    ensures { result ≡ position (λ pair. nat_le most (or_most most pair).within) pairs.now }
+{
+    pairs
+        .iter()
+        .position(|pair| or_most(*pair, most).within >= most)
+}
+
+/// The first place from which so many steps can be made, whatever its counters are.
+fn over(
+    alloc: Global,
+    image: &Image,
+    targets: &[Targets],
+    pairs: &[Option<Longest>],
+    most: u32,
+) -> Result<Option<usize>, AllocError>
+    requires nested { IsNested (marks_of image.now.code) targets.now }
+    requires longest { AreLongest (marks_of image.now.code) targets.now most pairs.now }
+    ensures { IfOk result (λ found. IsFirstOver (marks_of image.now.code) targets.now most pairs.now found) }
+{
+    if image.is_flat() {
+        return Ok(first_long(pairs, most));
+    }
+    let peaks = peaks_of(alloc, image, targets, pairs, most)?;
+    Ok(first_over(&peaks, most))
+}
+
 /// Why there is no step bound.
 #[derive(Clone, Copy, Debug, Drop)]
 pub(crate) enum Unbounded {
@@ -195,11 +223,9 @@ pub(crate) fn bound_of(
     let Ok(pairs) = longest_ways(alloc, image, targets, most) else {
         return Err(Unbounded::NoMemory);
     };
-    let Ok(peaks) = peaks_of(alloc, image, targets, &pairs, most) else {
-        return Err(Unbounded::NoMemory);
-    };
-    match first_over(&peaks, most) {
-        None => Ok(pairs),
-        Some(place) => Err(Unbounded::Over(place)),
+    match over(alloc, image, targets, &pairs, most) {
+        Ok(None) => Ok(pairs),
+        Ok(Some(place)) => Err(Unbounded::Over(place)),
+        Err(_) => Err(Unbounded::NoMemory),
     }
 }

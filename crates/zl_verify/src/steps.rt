@@ -7,7 +7,7 @@ ghost use Rattle.std.proofs.Math.ListN.{replicate};
 ghost use Rattle.zl_code.specs.Blocks.{marks_of};
 ghost use Rattle.zl_code.specs.Limits.{most_instructions};
 ghost use Rattle.zl_verify.specs.Nested.{places, IsNested, IsPacked};
-ghost use Rattle.zl_verify.specs.Longest.{pair_at, cut, further, larger, way_to, plain, turned, through, longest_by, Given, IsStuckFrom, AreLongest, missing, one_if};
+ghost use Rattle.zl_verify.specs.Longest.{pair_at, cut, further, larger, way_to, plain, turned, through, longest_by, Given, IsStuckFrom, AreLongest, IsStuckAt, missing, one_if};
 
 use std::alloc::{AllocError, Global};
 use zl_code::{Image, Mark};
@@ -206,6 +206,38 @@ fn longest_of(
     }
 }
 
+/// Gives a pair to the instruction with this number, if it has none and can be given one. Whether it
+/// was.
+#[inline(always)]
+fn give(
+    pairs: &mut [Option<Longest>],
+    image: &Image,
+    targets: &[Targets],
+    place: usize,
+    most: u32,
+) -> bool
+    requires nested { IsNested (marks_of image.now.code) targets.now }
+    requires few { place < most_instructions }
+    requires there { place < length image.now.code }
+    requires long { length pairs.old ≡ length image.now.code }
+    requires given { Given (marks_of image.now.code) targets.now most pairs.old }
+    ensures long { length pairs.new ≡ length image.now.code }
+    ensures given { Given (marks_of image.now.code) targets.now most pairs.new }
+    ensures same { OnFalse result (pairs.new ≡ pairs.old) }
+    ensures stuck { OnFalse result (IsStuckAt (marks_of image.now.code) targets.now most pairs.new place) }
+    ensures fewer { missing pairs.new + one_if result ≤ missing pairs.old }
+{
+    if pairs[place].is_some() {
+        return false;
+    }
+    let mark = image.mark_at(place);
+    let Some(pair) = longest_of(pairs, mark, targets[place], place, most) else {
+        return false;
+    };
+    pairs[place] = Some(pair);
+    true
+}
+
 /// Goes over the instructions from the last to the first, and gives a pair to each that has none and
 /// can be given one. Whether there was one.
 fn pass(pairs: &mut [Option<Longest>], image: &Image, targets: &[Targets], most: u32) -> bool
@@ -219,17 +251,26 @@ fn pass(pairs: &mut [Option<Longest>], image: &Image, targets: &[Targets], most:
 {
     let mut changed = false;
     for place in (0..image.len()).rev() {
-        if pairs[place].is_some() {
-            continue;
+        if give(pairs, image, targets, place, most) {
+            changed = true;
         }
-        let mark = image.mark_at(place);
-        let Some(pair) = longest_of(pairs, mark, targets[place], place, most) else {
-            continue;
-        };
-        pairs[place] = Some(pair);
-        changed = true;
     }
     changed
+}
+
+/// Does the same from the first instruction to the last: where jumps lead backward, many are given a
+/// pair by it that would take as many passes the other way.
+fn pass_on(pairs: &mut [Option<Longest>], image: &Image, targets: &[Targets], most: u32)
+    requires nested { IsNested (marks_of image.now.code) targets.now }
+    requires long { length pairs.old ≡ length image.now.code }
+    requires given { Given (marks_of image.now.code) targets.now most pairs.old }
+    ensures long { length pairs.new ≡ length image.now.code }
+    ensures given { Given (marks_of image.now.code) targets.now most pairs.new }
+    ensures fewer { missing pairs.new ≤ missing pairs.old }
+{
+    for place in 0..image.len() {
+        give(pairs, image, targets, place, most);
+    }
 }
 
 /// Nothing yet for each instruction.
@@ -255,6 +296,9 @@ pub(crate) fn longest_ways(
     let mut changed = true;
     while changed {
         changed = pass(&mut pairs, image, targets, most);
+        if changed {
+            pass_on(&mut pairs, image, targets, most);
+        }
     }
     Ok(pairs)
 }

@@ -1,5 +1,7 @@
 pub mod Common
 pub mod Slots
+pub mod Room
+pub mod Packed
 pub mod Listing
 pub mod Standing
 pub mod Filling

@@ -1,5 +1,5 @@
 -- Instructions with the same bytes are the same, where they can stand in an image.
-use Rattle.zl_interp.proofs.Common.{Agrees, Bool, CanStand, HasBytes, Image, Instr, IsTrue, List, None, Option, Some, [], and_parts, ap, false, instr_bytes}
+use Rattle.zl_interp.proofs.Common.{Agrees, Bool, CanStand, HasBytes, Image, Instr, IsTrue, List, None, Option, Some, [], and_parts, ap, instr_bytes}
 use Rattle.zl_interp.proofs.Common.{is_in_range, is_instr_in_range, list_all, none-some, option_map, refl, same_Some, slice_get, suc, sym, true, zero, ℕ, ◌↔◌}
 use Rattle.zl_interp.proofs.Common.{◌∙◌, ◌∷◌, ◌≡◌}
 use Rattle.zl_code.specs.declared.image.Version.{Version}
@@ -10,7 +10,8 @@ each : (v : Version) (raw : Bool) (code : List Instr) (n : ℕ) (x : Instr) → 
     → is_instr_in_range v true x ≡ true
 each v raw [] n x all at = absurd (none-some x at)
 each v raw (y ∷ ys) zero x all at =
-    ap (is_instr_in_range v true) (sym (same_Some y x at)) ∙ also_raw v raw y (and_parts (is_instr_in_range v raw y) (list_all (is_instr_in_range v raw) ys) all).0
+    ap (is_instr_in_range v true) (sym (same_Some y x at))
+    ∙ also_raw v raw y (and_parts (is_instr_in_range v raw y) (list_all (is_instr_in_range v raw) ys) all).0
 each v raw (y ∷ ys) (suc n) x all at = each v raw ys n x (and_parts (is_instr_in_range v raw y) (list_all (is_instr_in_range v raw) ys) all).1 at
 
 -- an instruction of an image can stand in one of its version
@@ -34,7 +35,8 @@ module _ (i : Image) (places : List (Option Instr)) (range : IsTrue (is_in_range
       by : (n : ℕ) (x : Instr) → slice_get places n ≡ Some (Some x) → (o : Option Instr) → slice_get i.code n ≡ o
           → option_map instr_bytes o ≡ Some (instr_bytes x) → slice_get i.code n ≡ Some x
       by n x at None is same = absurd (none-some (instr_bytes x) same)
-      by n x at (Some y) is same = is ∙ ap Some (one i.version y x (stands_there i n y range is) (can.stands n x at) (same_Some (instr_bytes y) (instr_bytes x) same))
+      by n x at (Some y) is same = is ∙ ap Some
+          (one i.version y x (stands_there i n y range is) (can.stands n x at) (same_Some (instr_bytes y) (instr_bytes x) same))
 
 -- so a test of the bytes is one of the instructions
 pub same_test : (i : Image) (places : List (Option Instr)) → IsTrue (is_in_range i) → CanStand i.version places → (passes : Type 0)

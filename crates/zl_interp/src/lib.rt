@@ -7,14 +7,17 @@
 //! handles are numbers to it, and calls are done in the crate above.
 #![tactic(auto)]
 
+mod arrays;
 mod bursts;
 mod counters;
 mod cpu;
 mod memory;
 mod next;
+mod packing;
 mod program;
 mod running;
 
+pub use arrays::room_for_handles;
 pub use bursts::{Done, Stop, Turn, burst};
 pub use cpu::Cpu;
 pub use next::{call_at, has_its_memory, local_step};

@@ -1,7 +1,7 @@
 //! What stands next for a Cpu in its program: a system call, or a local instruction, done here.
 
 ghost use Rattle.std.specs.Prelude.{◌≡◌, ◌≢◌, ◌<◌, ◌≤◌, true, false, length, slice_get, None, IfSome, IfNone, OnSome};
-ghost use Rattle.zl_code.specs.Asked.{has_its_memory};
+ghost use Rattle.zl_code.specs.Asked.{array_in, has_its_memory, has_places, is_range_there};
 ghost use Rattle.zl_code.specs.Instructions.{call_row};
 ghost use Rattle.zl_code.specs.Limits.{most_instructions};
 ghost use Rattle.zl_code.specs.Local.{goes_to, local_effect};
@@ -19,7 +19,7 @@ use zl_code::{CallInstr, Ending, Instr, LocalInstr};
 /// The call that stands next for the Cpu, if one does.
 ///
 /// None does where the counter is outside the code, where a local instruction or an unknown one
-/// stands there, and at a call whose range of memory isn't there. Own profile.
+/// stands there, and at a call whose range of memory or slot array isn't there. Own profile.
 pub fn call_at(program: &Program, cpu: &Cpu) -> Option<CallInstr>
     ensures found { IfSome result (StandsNext (program_value program.now).image cpu.now) }
     ensures missing { IfNone result
@@ -34,7 +34,7 @@ pub fn call_at(program: &Program, cpu: &Cpu) -> Option<CallInstr>
     }
 }
 
-/// Whether the range of memory that the call names is there; most calls name none.
+/// Whether the memory and the slots that the call names are there; most calls name none.
 ///
 /// Own profile.
 #[inline(always)]
@@ -42,12 +42,32 @@ pub fn has_its_memory(call: &CallInstr, cpu: &Cpu) -> bool
     ensures { result ≡ has_its_memory (call_row call.now.name).ending call.now cpu.now }
 {
     match call.name.row().columns.ending {
-        Ending::Room | Ending::Handles => {
-            let address = cpu.register(call.registers[2]);
-            let count = cpu.register(call.registers[3]);
-            cpu.bytes(address, count).is_some()
+        Ending::Room | Ending::Handles => has_range(call, cpu),
+        Ending::FromSlots => {
+            has_range(call, cpu) && has_places(call, cpu, cpu.register(call.registers[4]))
         }
+        Ending::IntoSlots => has_range(call, cpu) && has_places(call, cpu, 0),
         _ => true,
+    }
+}
+
+/// Whether the range of memory is there that the third and the fourth register name.
+#[inline(always)]
+fn has_range(call: &CallInstr, cpu: &Cpu) -> bool
+    ensures { result ≡ is_range_there call.now cpu.now }
+{
+    let address = cpu.register(call.registers[2]);
+    let count = cpu.register(call.registers[3]);
+    cpu.bytes(address, count).is_some()
+}
+
+/// Whether the slot array that the call names is there, and has so many places.
+fn has_places(call: &CallInstr, cpu: &Cpu, count: u64) -> bool
+    ensures { result ≡ has_places count (array_in call.now cpu.now) }
+{
+    match cpu.places(call.number()) {
+        Some(places) => count <= places.len() as u64,
+        None => false,
     }
 }
 

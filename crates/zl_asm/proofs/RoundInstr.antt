@@ -2,8 +2,8 @@
 use Rattle.zl_asm.proofs.Common.{Bool, Code, Ending, IsBytes, List, None, Option, Row, Some, Source, Version, [], aims, and_parts, ap, append-nil, arith}
 use Rattle.zl_asm.proofs.Common.{behind, codes, drop, eq-eqb, eqb-true, false, hex_text, if_fits, if◌then◌else◌, instr_fault, instr_text, is_ending_clear}
 use Rattle.zl_asm.proofs.Common.{is_known, is_new, is_word, label_of, layout, layout_at, layout_of, length, length-drop, length-take, line_of, list_all}
-use Rattle.zl_asm.proofs.Common.{list_all-from_IsBytes, not, operand_texts, operands_of, option_map, pow-suc, reading_of, refl, resolved, row_at, row_by}
-use Rattle.zl_asm.proofs.Common.{row_bytes}
+use Rattle.zl_asm.proofs.Common.{list_all-from_IsBytes, nat_lt, not, operand_texts, operands_of, option_map, pow-suc, reading_of, refl, resolved, row_at}
+use Rattle.zl_asm.proofs.Common.{row_by, row_bytes}
 use Rattle.zl_asm.proofs.Common.{row_of, row_text, slice_index, source_of, starts_with, suc, sym, take, true, true≢false, unknown_of, unwrap_or, with_target}
 use Rattle.zl_asm.proofs.Common.{words_of, written, zero}
 use Rattle.zl_asm.proofs.Common.{ℕ, ◌++◌, ◌<◌, ◌==◌, ◌^◌, ◌∙◌, ◌∷◌, ◌≡◌}
@@ -20,8 +20,8 @@ use Rattle.zl_code.proofs.InstrFacts.{no_fault-row, row_bytes-again}
 use Rattle.zl_code.proofs.ImageBytes.{IsBytes-drop}
 use Rattle.zl_asm.proofs.RoundWords.{is_plain_word, with_commas, words_of-operands, operands_of-commas, words_of-space, words_of-alone}
 use Rattle.zl_asm.proofs.RoundHex.{hex_again, plain_word-hex}
-use Rattle.zl_asm.proofs.RoundRows.{row_fits}
-use Rattle.zl_asm.proofs.RoundSource.{IsWhole, IsPlaced, is_listed, whole_written, source_read, source_of-texts, plain_operands, source_resolved}
+use Rattle.zl_asm.proofs.RoundRows.{RowFits, row_fits}
+use Rattle.zl_asm.proofs.RoundSource.{IsWhole, IsPlaced, is_aimed, is_listed, whole_written, source_read, source_of-texts, plain_operands, source_resolved}
 
 -- bytes of an instruction without a fault
 pub record IsInstr (v : Version) (raw : Bool) (bytes : List ℕ) : Type 0 where
@@ -148,6 +148,13 @@ untargeted_by _ bytes = with_target bytes 0
 abbrev pub untargeted : Version → List ℕ → List ℕ
 untargeted v bytes = untargeted_by (mark_in v bytes) bytes
 
+-- an ending without a target is written as it is
+plain_end : (e : Ending) (b : Bool) → (b ≡ true → is_aimed e ≡ false) → (if b then untargeted_end e else e) ≡ e
+plain_end e false h = refl
+plain_end ending.Target true h = absurd (true≢false (h refl))
+plain_end ending.Both true h = absurd (true≢false (h refl))
+plain_end _ true h = refl
+
 -- so it is where the row is known
 untargeted_row : (v : Version) (raw : Bool) (row : Row) (bytes : List ℕ) → row_at v (slice_index bytes 0) ≡ Some row → IsInstr v raw bytes
     → row_bytes row.opcode (layout (length row.fields) (written row)) (reading_of bytes) ≡ untargeted v bytes
@@ -168,8 +175,8 @@ untargeted_row v raw row bytes here h = by (slice_index bytes 0 == 26) refl (sli
     plain version.One p q = refl
     plain version.Two p q = rw (p, q) refl
 
-    opcode : row.opcode ≡ slice_index bytes 0
-    opcode = (row_fits (slice_index bytes 0) row k.there).same
+    row_is : RowFits row (slice_index bytes 0)
+    row_is = row_fits (slice_index bytes 0) row k.there
 
     by : (p : Bool) → (slice_index bytes 0 == 26) ≡ p → (q : Bool) → (slice_index bytes 0 == 27) ≡ q
         → row_bytes row.opcode (layout (length row.fields) (written row)) (reading_of bytes) ≡ untargeted v bytes
@@ -190,8 +197,11 @@ untargeted_row v raw row bytes here h = by (slice_index bytes 0 == 26) refl (sli
         ∙ sym (ap (λ (w : Version). untargeted w bytes) two ∙ rw (p, e) (ap (λ (b : List ℕ). with_target b 0)
         (sym same ∙ (λ j. row_bytes (n j) (layout (length (r j).fields) (r j).ending) (reading_of bytes)))))
     by false p false e =
-        ap (λ (m : ℕ). row_bytes m (layout (length row.fields) (if is_new m then untargeted_end row.ending else row.ending)) (reading_of bytes)) opcode
-        ∙ rw (p, e, plain v p e) same
+        ap (λ (m : ℕ). row_bytes m (layout (length row.fields) (if is_new m then untargeted_end row.ending else row.ending)) (reading_of bytes)) row_is.same
+        ∙ rw (p, e, plain v p e)
+        (ap (λ (d : Ending). row_bytes (slice_index bytes 0) (layout (length row.fields) d) (reading_of bytes))
+        (plain_end row.ending (nat_lt 87 (slice_index bytes 0)) row_is.no_target)
+        ∙ same)
 
 pub instr_resolved : (labels : List (List ℕ × ℕ)) (v : Version) (count : ℕ) (raw : Bool) (bytes : List ℕ) → IsInstr v raw bytes
     → (aims (row_at v (slice_index bytes 0)) ≡ true → IsPlaced labels count (reading_of bytes).target)

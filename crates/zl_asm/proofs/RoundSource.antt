@@ -50,6 +50,8 @@ abbrev pub tail_read : ℕ → Ending → Reading → Tail
 tail_read count ending.Nothing r = tail 0 0 None
 tail_read count ending.Number r = tail r.imm 0 None
 tail_read count ending.Room r = tail r.imm 0 None
+tail_read count ending.FromSlots r = tail r.imm 0 None
+tail_read count ending.IntoSlots r = tail r.imm 0 None
 tail_read count ending.Target r = target_tail count 0 r.target
 tail_read count ending.Both r = target_tail count r.imm r.target
 tail_read count ending.Handles r = record { bytes = r.places; label = None }
@@ -64,6 +66,8 @@ unfolding tail_of tail_texts
 tail_of-texts count ending.Nothing r h = refl
 tail_of-texts count ending.Number r h = rw (number_of-decimal r.imm h.imm) refl
 tail_of-texts count ending.Room r h = rw (number_of-decimal r.imm h.imm) refl
+tail_of-texts count ending.FromSlots r h = rw (number_of-decimal r.imm h.imm) refl
+tail_of-texts count ending.IntoSlots r h = rw (number_of-decimal r.imm h.imm) refl
 tail_of-texts count ending.Target r h = target_by count 0 r.target h.target (nat_lt r.target count)
 tail_of-texts count ending.Both r h = rw (number_of-decimal r.imm h.imm) (target_by count r.imm r.target h.target (nat_lt r.target count))
 tail_of-texts count ending.Handles r h =
@@ -107,6 +111,8 @@ unfolding tail_texts
 plain_tail count ending.Nothing r h = refl
 plain_tail count ending.Number r h = and_from _ _ (plain-decimal r.imm h.imm) refl
 plain_tail count ending.Room r h = and_from _ _ (plain-decimal r.imm h.imm) refl
+plain_tail count ending.FromSlots r h = and_from _ _ (plain-decimal r.imm h.imm) refl
+plain_tail count ending.IntoSlots r h = and_from _ _ (plain-decimal r.imm h.imm) refl
 plain_tail count ending.Target r h = and_from _ _ (plain_target count r.target h.target (nat_lt r.target count)) refl
 plain_tail count ending.Both r h = and_from _ _ (plain-decimal r.imm h.imm) (and_from _ _ (plain_target count r.target h.target (nat_lt r.target count)) refl)
 plain_tail count ending.Handles r h = plain-registers (filter is_taken r.places) (are_registers-taken r.places h.named)

@@ -2,13 +2,16 @@
 use Rattle.zl_asm.proofs.Common.{Denotes, List, None, Some, [], all_of, code_lines_from, codes, digit_of, directive_of, false, hex_bytes, instr_fault, is_name}
 use Rattle.zl_asm.proofs.Common.{is_word, joined, kind_of, label_of, labels_from, line_of, listing_from, listing_of, local_parts, names_once, none_behind}
 use Rattle.zl_asm.proofs.Common.{number_of, operands_after, operands_of, refl, register_of, rights_of, row_named, row_of, source_of, tail_of, tail_texts}
-use Rattle.zl_asm.proofs.Common.{end_among, lines_from, paired_from, text_of, true, unknown_of, words_from, ℕ, ◌∷◌, ◌≡◌}
+use Rattle.zl_asm.proofs.Common.{end_among, lines_from, paired_from, text_of, true, unknown_of, words_from, ℕ, ◌++◌, ◌∷◌, ◌≡◌}
 use Rattle.std.specs.Fmt.{digits}
 use Rattle.zl_rights.specs.declared.kind.Kind.TheVariants as kind
 use Rattle.zl_rights.specs.declared.policy.Condition.TheVariants as condition
 use Rattle.zl_rights.specs.Names.{kind_named, condition_named}
 use Rattle.zl_code.specs.Blocks.{all_nest, all_stay, blocks_at}
+use Rattle.zl_code.proofs.Called.{called}
 use Rattle.zl_code.proofs.Stored.{image}
+use Rattle.zl_code.specs.declared.history.CallName.TheVariants as call
+use Rattle.zl_code.specs.declared.image.SlotArray.{SlotArray}
 use Rattle.zl_code.specs.declared.image.Version.TheVariants as version
 use Rattle.zl_code.specs.declared.instr.Instr.TheVariants as instr
 use Rattle.zl_code.specs.declared.instr.LocalInstr.TheVariants as local
@@ -17,9 +20,9 @@ use Rattle.zl_asm.specs.Denotes.{image_bytes_of}
 -- all that the reading of a text unfolds
 unfoldable pub reading : Unit {0}
 unfolding is_word words_from digit_of number_of register_of is_name hex_bytes kind_of directive_of operands_after operands_of
-    all_of tail_of source_of unknown_of label_of line_of none_behind labels_from names_once lines_from end_among blocks_at all_nest all_stay paired_from listing_from listing_of
-    row_of row_named instr_fault kind_named
-    condition_named local_parts
+    all_of tail_of source_of unknown_of label_of line_of none_behind labels_from names_once lines_from
+    end_among blocks_at all_nest all_stay paired_from listing_from listing_of
+    row_of row_named instr_fault kind_named condition_named local_parts
 reading = tt
 
 abbrev stored : List ℕ
@@ -129,6 +132,45 @@ bytes_of_a_rep : image_bytes_of (codes ".raw\n.bytes 1a0000000000000003000000030
 unfolding reading
 bytes_of_a_rep = refl
 
+-- ---- calls of version 2
+
+-- The number of a slot array stands behind the registers.
+abbrev slot_calls : List ℕ
+slot_calls = codes "chan_write_slots r2, r3, r0, r0, r6, 0\nchan_read_slots r2, r4, r0, r0, r7, r8, 0\nhandle_info r2, r9, r10, r11\n"
+
+abbrev any_64 : SlotArray
+any_64 = record { kind = None; length = 64; rights = rights_of 0 }
+
+slot_calls_say : listing_of (codes ".version 2\n.raw\n.slots any 64 0\n" ++ slot_calls) ≡ Some (record {
+  version = version.Two;
+  raw = true;
+  memory = 0;
+  budget = 1;
+  needs = [];
+  starts = [];
+  slots = any_64 ∷ [];
+  code =
+      (88 ∷ 2 ∷ 3 ∷ 0 ∷ 0 ∷ 6 ∷ 0 ∷ 0 ∷ 0 ∷ 0 ∷ 0 ∷ 0 ∷ 0 ∷ 0 ∷ 0 ∷ 0 ∷ [])
+      ∷ (89 ∷ 2 ∷ 4 ∷ 0 ∷ 0 ∷ 7 ∷ 8 ∷ 0 ∷ 0 ∷ 0 ∷ 0 ∷ 0 ∷ 0 ∷ 0 ∷ 0 ∷ 0 ∷ [])
+      ∷ (90 ∷ 2 ∷ 9 ∷ 10 ∷ 11 ∷ 0 ∷ 0 ∷ 0 ∷ 0 ∷ 0 ∷ 0 ∷ 0 ∷ 0 ∷ 0 ∷ 0 ∷ 0 ∷ [])
+      ∷ [];
+})
+unfolding reading
+slot_calls_say = refl
+
+-- So the disassembler writes them.
+slot_calls_text : text_of (record image {
+  version = version.Two;
+  slots = any_64 ∷ [];
+  code =
+      instr.Call (called call.ChanWriteSlots (2 ∷ 3 ∷ 0 ∷ 0 ∷ 6 ∷ []) 0)
+      ∷ instr.Call (called call.ChanReadSlots (2 ∷ 4 ∷ 0 ∷ 0 ∷ 7 ∷ 8 ∷ []) 0)
+      ∷ instr.Call (called call.HandleInfo (2 ∷ 9 ∷ 10 ∷ 11 ∷ []) 0)
+      ∷ [];
+}) ≡ codes ".version 2\n.raw\n.memory 0\n.budget 100\n.slots any 64 0\n" ++ slot_calls
+unfolding reading joined tail_texts code_lines_from text_of digits
+slot_calls_text = refl
+
 -- ---- texts that denote no image
 
 abbrev DenotesNone : List ℕ → Type 0
@@ -157,6 +199,19 @@ other_version = (refl, refl, refl, refl)
 version_1_and_rep : DenotesNone (codes ".raw\nrep 1\nendrep") × DenotesNone (codes ".version 2\n.raw\n.bytes 1a000000000000000100000001000000")
 unfolding reading
 version_1_and_rep = (refl, refl)
+
+version_1_and_slots : DenotesNone (codes ".raw\n.slots any 64 0\nchan_write_slots r2, r3, r0, r0, r6, 0")
+    × DenotesNone (codes ".raw\n.slots any 64 0\nchan_read_slots r2, r4, r0, r0, r7, r8, 0")
+    × DenotesNone (codes ".raw\nhandle_info r2, r9, r10, r11")
+unfolding reading
+version_1_and_slots = (refl, refl, refl)
+
+operands_of_slots : DenotesNone (codes ".version 2\nchan_write_slots r2, r3, r0, r0, r6")
+    × DenotesNone (codes ".version 2\nchan_write_slots r2, r3, r0, r0, r6, r0")
+    × DenotesNone (codes ".version 2\nchan_read_slots r2, r4, r0, r0, r7, r8, 0, 0")
+    × DenotesNone (codes ".version 2\nhandle_info r2, r9, r10, r11, 0")
+unfolding reading
+operands_of_slots = (refl, refl, refl, refl)
 
 jump_out_of_a_block : DenotesNone (codes ".version 2\n.budget 8\nconst r2, 0\nrep 3\njmp 4\nendrep\nprocess_exit r2")
 unfolding reading

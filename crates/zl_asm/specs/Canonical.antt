@@ -72,6 +72,8 @@ unfoldable pub tail_texts : ℕ → Ending → Reading → List (List ℕ)
 tail_texts count ending.Nothing r = []
 tail_texts count ending.Number r = decimal r.imm ∷ []
 tail_texts count ending.Room r = decimal r.imm ∷ []
+tail_texts count ending.FromSlots r = decimal r.imm ∷ []
+tail_texts count ending.IntoSlots r = decimal r.imm ∷ []
 tail_texts count ending.Target r = target_text count r.target ∷ []
 tail_texts count ending.Both r = decimal r.imm ∷ target_text count r.target ∷ []
 tail_texts count ending.Handles r = map register_text (filter (λ place. not (place == no_register)) r.places)

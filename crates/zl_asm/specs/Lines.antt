@@ -138,6 +138,8 @@ unfoldable pub tail_of : Ending → List (List ℕ) → Option Tail
 tail_of ending.Nothing [] = Some (tail 0 0 None)
 tail_of ending.Number (word ∷ []) = option_map (λ imm. tail imm 0 None) (number_of word)
 tail_of ending.Room (word ∷ []) = option_map (λ imm. tail imm 0 None) (number_of word)
+tail_of ending.FromSlots (word ∷ []) = option_map (λ imm. tail imm 0 None) (number_of word)
+tail_of ending.IntoSlots (word ∷ []) = option_map (λ imm. tail imm 0 None) (number_of word)
 tail_of ending.Target (word ∷ []) = tail_to 0 word
 tail_of ending.Both (word ∷ target ∷ []) = then_with (number_of word) (λ imm. tail_to imm target)
 tail_of ending.Handles words = option_map (λ places. record { bytes = places; label = None }) (then_with (all_of register_of words) places_of)

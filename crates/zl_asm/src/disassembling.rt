@@ -207,7 +207,9 @@ fn push_tail(
     let target = parts.target();
     match ending {
         Ending::Nothing => Ok(()),
-        Ending::Number | Ending::Room => write!(text, "{separator}{imm}"),
+        Ending::Number | Ending::Room | Ending::FromSlots | Ending::IntoSlots => {
+            write!(text, "{separator}{imm}")
+        }
         Ending::Target => {
             text.push_str(separator)?;
             push_target(text, count, target)
@@ -320,7 +322,7 @@ fn target_of(version: Version, bytes: [u8; Instr::LEN]) -> Option<u32>
     let row = row_at(version, bytes[0])?;
     match written(&row) {
         Ending::Target | Ending::Both => Some(target),
-        Ending::Nothing | Ending::Number | Ending::Room | Ending::Handles => None,
+        _ => None,
     }
 }
 

@@ -129,7 +129,9 @@ fn tail_of<'a>(ending: Ending, operands: &[&'a [u8]]) -> Result<Tail<'a>, AsmCau
 {
     match (ending, operands) {
         (Ending::Nothing, []) => Ok(tail_with(0, 0, None)),
-        (Ending::Number | Ending::Room, [imm]) => Ok(tail_with(number_operand(imm)?, 0, None)),
+        (Ending::Number | Ending::Room | Ending::FromSlots | Ending::IntoSlots, [imm]) => {
+            Ok(tail_with(number_operand(imm)?, 0, None))
+        }
         (Ending::Target, [target]) => tail_to(0, target),
         (Ending::Both, [imm, target]) => tail_to(number_operand(imm)?, target),
         (Ending::Handles, registers) => handles(registers),

@@ -2,6 +2,7 @@
 //! at fault, what it has and what was wanted, and what to do.
 
 mod advice;
+mod arrays;
 mod code;
 mod known;
 mod memory;
@@ -9,6 +10,7 @@ mod places;
 mod register;
 mod ways;
 
+use arrays::push_array;
 use code::{push_illegal, push_need, push_target};
 use known::push_state;
 use memory::push_range;
@@ -93,14 +95,18 @@ fn push_rule(
         Cause::FallsOff => hints.push_str(reason_of(cause)),
         Cause::UndeclaredNeed => push_need(hints, &site),
         Cause::IllegalOp => push_illegal(hints, &site),
-        _ => {
-            if !push_register(hints, &site, cause)? {
-                hints.push_str(reason_of(cause))?;
-                push_state(hints, &site.state)?;
-            }
-            Ok(())
-        }
+        _ => push_fault(hints, &site, cause),
     }
+}
+
+/// Adds which register is at fault for the cause, or that the slot array is; what is known of all registers
+/// where neither is found.
+fn push_fault(hints: &mut String, site: &Site, cause: Cause) -> Result<(), AllocError> {
+    if push_register(hints, site, cause)? || push_array(hints, site, cause)? {
+        return Ok(());
+    }
+    hints.push_str(reason_of(cause))?;
+    push_state(hints, &site.state)
 }
 
 /// The instruction of this number, and what is known there.

@@ -406,7 +406,7 @@ fn is_unused(row: &Row, bytes: &[u8], place: usize) -> bool {
     }
     match row.columns.ending {
         Ending::Nothing => true,
-        Ending::Number | Ending::Room => place >= 12,
+        Ending::Number | Ending::Room | Ending::FromSlots | Ending::IntoSlots => place >= 12,
         Ending::Target => place < 12,
         Ending::Both => false,
         Ending::Handles => place > 8 && byte_at(bytes, place - 1) == HandleList::NONE,

@@ -58,8 +58,8 @@ fn ending_of(row: &Row) -> Ending {
 fn ending_count(ending: Ending) -> usize {
     match ending {
         Ending::Nothing | Ending::Handles => 0,
-        Ending::Number | Ending::Target | Ending::Room => 1,
         Ending::Both => 2,
+        _ => 1,
     }
 }
 
@@ -68,6 +68,7 @@ fn ending_text(ending: Ending) -> &'static str {
     match ending {
         Ending::Nothing => "",
         Ending::Number | Ending::Room => " and a number",
+        Ending::FromSlots | Ending::IntoSlots => " and the number of a slot array",
         Ending::Target => " and a target",
         Ending::Both => ", a number and a target",
         Ending::Handles => " and up to 8 more",
@@ -147,14 +148,29 @@ fn wanted_for(row: &Row, index: usize, word: &[u8]) -> Option<&'static str> {
     match ending_of(row) {
         Ending::Target if is_behind => no_target(word),
         Ending::Both if is_last => no_target(word),
-        Ending::Number | Ending::Room | Ending::Both if is_behind => match number(word) {
-            Some(_) => None,
-            None => Some("a number from 0 to 4294967295"),
-        },
-        _ => match register(word) {
-            Some(_) => None,
-            None => Some("a register, r0 to r31,"),
-        },
+        Ending::FromSlots | Ending::IntoSlots if is_behind => {
+            no_number(word, "the number of a slot array")
+        }
+        Ending::Number | Ending::Room | Ending::Both if is_behind => {
+            no_number(word, "a number from 0 to 4294967295")
+        }
+        _ => no_register(word),
+    }
+}
+
+/// What is wanted where the word is no number.
+fn no_number(word: &[u8], wanted: &'static str) -> Option<&'static str> {
+    match number(word) {
+        Some(_) => None,
+        None => Some(wanted),
+    }
+}
+
+/// What is wanted where the word is no register.
+fn no_register(word: &[u8]) -> Option<&'static str> {
+    match register(word) {
+        Some(_) => None,
+        None => Some("a register, r0 to r31,"),
     }
 }
 

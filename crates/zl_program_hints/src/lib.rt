@@ -12,6 +12,7 @@
 //! here is found anew, line by line, from the input and the cause that the answer has.
 #![tactic(auto)]
 
+mod arrays;
 mod block;
 mod breach;
 mod directive;
@@ -30,6 +31,7 @@ mod text;
 mod word;
 mod zircon;
 
+pub use arrays::push_no_array;
 pub use block::{Block, End, block_of, is_opening, push_block_fault};
 pub use image::explain_image;
 pub use instr_text::push_instr_text;

@@ -1,10 +1,12 @@
 //! Why a process is stuck.
 
+use crate::arrays::push_no_array;
 use crate::instr_text::push_instr_text;
-use crate::text::Value::Number;
+use crate::text::Value::{Name, Number};
 use crate::text::push_text;
+use crate::word::plural;
 use std::alloc::{AllocError, Global};
-use zl_code::{CallName, Image, Instr, InstrBytes, LocalInstr};
+use zl_code::{Ending, Image, Instr, InstrBytes, LocalInstr};
 
 /// A stuck process.
 #[derive(Clone, Copy)]
@@ -55,11 +57,15 @@ fn push_reason(hint: &mut String, stuck: Stuck, instr: Instr) -> Result<(), Allo
             let opcode = Number(u64::from(bytes[0]));
             push_text(hint, ": no instruction has the opcode #", &[opcode])
         }
-        Instr::Call(call) => match call.name {
-            CallName::ChanWrite | CallName::ChanReadEtc => push_no_bytes(hint, stuck, bytes),
-            // every other call is answered
-            _ => Ok(()),
-        },
+        Instr::Call(call) => {
+            let ending = call.name.row().columns.ending;
+            match ending {
+                Ending::Handles | Ending::Room => push_no_bytes(hint, stuck, bytes),
+                Ending::FromSlots | Ending::IntoSlots => push_no_slots(hint, stuck, bytes, ending),
+                // every other call is answered
+                _ => Ok(()),
+            }
+        }
         Instr::Local(local) => push_outside(hint, stuck, *local, bytes),
     }
 }
@@ -124,19 +130,63 @@ fn push_no_bytes(
     )
 }
 
+/// Adds that the bytes of a call with this ending aren't all in the memory, that its slot array isn't
+/// there, or that this has fewer places than the call sends from.
+fn push_no_slots(
+    hint: &mut String,
+    stuck: Stuck,
+    bytes: [u8; Instr::LEN],
+    ending: Ending,
+) -> Result<(), AllocError> {
+    let parts = InstrBytes::split(bytes);
+    let [_, _, address, length, count, ..] = parts.registers;
+    let end = register(stuck, address).saturating_add(register(stuck, length));
+    if end > u64::from(stuck.image.memory()) {
+        return push_no_bytes(hint, stuck, bytes);
+    }
+    let array = parts.imm();
+    match stuck.image.slots().get(array as usize) {
+        Some(slots) => {
+            let values = [
+                Number(u64::from(array)),
+                Number(u64::from(slots.length)),
+                Name(plural(usize::from(slots.length))),
+                Number(u64::from(count)),
+                Number(register(stuck, count)),
+            ];
+            push_text(
+                hint,
+                ": slot array # has # place#, and r# asks for #",
+                &values,
+            )
+        }
+        None => push_missing(hint, stuck, array, ending),
+    }
+}
+
+/// Adds that the slot array of an instruction with this ending isn't there.
+fn push_missing(
+    hint: &mut String,
+    stuck: Stuck,
+    array: u32,
+    ending: Ending,
+) -> Result<(), AllocError> {
+    hint.push_str(": ")?;
+    push_no_array(hint, stuck.image, array, ending)
+}
+
 /// Adds that the slot array or its place isn't there.
 fn push_no_slot(hint: &mut String, stuck: Stuck, place: u64, array: u32) -> Result<(), AllocError> {
-    let arrays = stuck.image.slots();
-    let array_number = Number(u64::from(array));
-    match arrays.get(array as usize) {
+    match stuck.image.slots().get(array as usize) {
         Some(slots) => {
             let last = u64::from(slots.length.saturating_sub(1));
             let text = ": slot array # has no place #; its last one is #";
-            push_text(hint, text, &[array_number, Number(place), Number(last)])
+            push_text(
+                hint,
+                text,
+                &[Number(u64::from(array)), Number(place), Number(last)],
+            )
         }
-        None => {
-            let text = ": there is no slot array #; the program has #";
-            push_text(hint, text, &[array_number, Number(arrays.len() as u64)])
-        }
+        None => push_missing(hint, stuck, array, Ending::Number),
     }
 }

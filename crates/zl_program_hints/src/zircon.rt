@@ -5,7 +5,7 @@ use crate::text::push_text;
 use std::alloc::AllocError;
 
 /// Zircon's names without `zx_`, each with what the call is here.
-const CALLS: [(&str, &str); 25] = [
+const CALLS: [(&str, &str); 26] = [
     ("channel_create", "chan_create"),
     ("channel_read", "chan_read_etc"),
     ("channel_read_etc", "chan_read_etc"),
@@ -18,6 +18,7 @@ const CALLS: [(&str, &str); 25] = [
     ("handle_replace", "replace"),
     ("job_create", "job_create"),
     ("job_set_policy", "job_set_policy"),
+    ("object_get_info", "handle_info, of version 2,"),
     ("object_signal", "signal"),
     ("object_signal_peer", "signal_peer"),
     ("object_wait_async", "wait_async"),

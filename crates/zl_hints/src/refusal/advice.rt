@@ -6,7 +6,7 @@ use crate::refusal::register::missing_at;
 use bitflags::Flags;
 use std::alloc::AllocError;
 use zl_abs::{AbsVal, Cause};
-use zl_code::{InstrBytes, Register, Start};
+use zl_code::{CallName, InstrBytes, Register, Start};
 use zl_program_hints::Value::{Name, Number};
 use zl_program_hints::{Value, push_text};
 use zl_rights::{Kind, Rights};
@@ -116,16 +116,25 @@ fn push_test_of_kind(hint: &mut String, site: &Site, place: &Place) -> Result<()
     let Some(kind) = first_of(wanted_at(site, place).kinds) else {
         return Ok(());
     };
+    let number = Number(u64::from(kind.number()));
     if let Some(tag) = tag_of(site, place.register, true) {
-        let number = Number(u64::from(kind.number()));
         let text = "; test its kind: jne r#, #, ..";
         push_text(hint, text, &[numbered(tag), number])
     } else if is_of_start(site, place.register) {
         let text = "; its .start line can say # in place of any";
         push_text(hint, text, &[Name(kind.name())])
+    } else if has_handle_info(site) {
+        let text = "; ask for its kind by handle_info, and test it: jne .., #, ..";
+        push_text(hint, text, &[number])
     } else {
         Ok(())
     }
+}
+
+/// Whether a program of this version can ask for the kind and the rights of a handle.
+fn has_handle_info(site: &Site) -> bool {
+    let opcode = CallName::HandleInfo.row().opcode;
+    site.image.version().knows(opcode)
 }
 
 /// Adds how to know that the handle has the rights that are missing, where that can be known.
@@ -139,13 +148,16 @@ fn push_test_of_rights(
 ) -> Result<(), AllocError> {
     let handle = numbered(register);
     let all = Number(u64::from(missing.union(rights).bits()));
+    let missing = Number(u64::from(missing.bits()));
     let (text, values): (&str, [Value; 4]) = if let Some(tag) = tag_of(site, register, false) {
-        let missing = Number(u64::from(missing.bits()));
         let text = "; test its rights: jnhas r#, #, ..";
         (text, [numbered(tag), missing, all, all])
     } else if is_of_start(site, register) {
         let text = "; its .start line can ask for that: .start # #";
         (text, [Name(kind_name(kind)), all, all, all])
+    } else if kind.is_none() && has_handle_info(site) {
+        let text = "; ask for its rights by handle_info, and test them: jnhas .., #, ..";
+        (text, [missing, all, all, all])
     } else if kind.is_none() {
         let text =
             "; where it lacks that, replace gives 0: replace .., r#, r#, #, and then jz r#, ..";

@@ -1,31 +1,30 @@
 //! Faults of an instruction itself, whatever the registers hold.
 
+use crate::refusal::arrays::missing_array;
 use crate::refusal::known::{numbered, push_state};
 use crate::refusal::places::{MOST_PLACES, Site, Use, is_among, place_at};
 use std::alloc::AllocError;
-use zl_code::{InstrBytes, LocalInstr, Register};
+use zl_code::{Ending, InstrBytes, LocalInstr, Register};
 use zl_program_hints::Value::{Name, Number};
-use zl_program_hints::push_text;
+use zl_program_hints::{push_no_array, push_text};
 
 /// Adds why there is no such instruction.
 pub fn push_illegal(hint: &mut String, site: &Site) -> Result<(), AllocError> {
+    let array = site.parts.imm();
     match site.image.local_at(site.at) {
-        Some(LocalInstr::Swap { .. }) => {
-            let count = Number(site.image.slots().len() as u64);
-            let text = "there is no slot array #; the program has #";
-            push_text(hint, text, &[Number(u64::from(site.parts.imm())), count])
-        }
+        Some(LocalInstr::Swap { .. }) => push_no_array(hint, site.image, array, Ending::Number),
         Some(LocalInstr::Take { .. }) => {
             let [register, ..] = site.parts.registers;
             let register = Number(u64::from(register));
             push_text(hint, "r# is taken into itself", &[register])
         }
-        _ => match written_twice(site.parts) {
-            Some(register) => {
+        _ => match (missing_array(site), written_twice(site.parts)) {
+            (Some(ending), _) => push_no_array(hint, site.image, array, ending),
+            (None, Some(register)) => {
                 let text = "r# is written twice; each result wants a register of its own";
                 push_text(hint, text, &[numbered(register)])
             }
-            None => {
+            (None, None) => {
                 let opcode = Number(u64::from(site.parts.opcode));
                 push_text(hint, "no instruction has the opcode #", &[opcode])?;
                 push_state(hint, &site.state)

@@ -2,7 +2,7 @@
 
 use crate::refusal::places::Site;
 use std::alloc::AllocError;
-use zl_code::{Image, Instr, InstrBytes, LocalInstr, Register};
+use zl_code::{Ending, Image, Instr, InstrBytes, LocalInstr, Register};
 use zl_program_hints::Value::{Name, Number};
 use zl_program_hints::{Value, push_text};
 
@@ -13,14 +13,20 @@ pub fn push_range(hint: &mut String, site: &Site) -> Result<(), AllocError> {
     };
     let parts = InstrBytes::split(instr.to_bytes());
     let offset = parts.imm();
-    let [first, second, third, fourth, ..] = parts.registers;
+    let [first, second, third, fourth, fifth, ..] = parts.registers;
     match &instr {
-        Instr::Local(LocalInstr::Swap { .. }) => push_slot(hint, site, second, offset),
+        Instr::Local(LocalInstr::Swap { .. }) => push_slots(hint, site, second, offset, 0),
         Instr::Local(LocalInstr::LoadByte { .. }) => push_bytes(hint, site, second, offset, 1),
         Instr::Local(LocalInstr::LoadWord { .. }) => push_bytes(hint, site, second, offset, 8),
         Instr::Local(LocalInstr::StoreByte { .. }) => push_bytes(hint, site, first, offset, 1),
         Instr::Local(LocalInstr::StoreWord { .. }) => push_bytes(hint, site, first, offset, 8),
-        Instr::Call(_) => push_message(hint, site, third, fourth),
+        Instr::Call(call) => match call.name.row().columns.ending {
+            // a count may be the length itself
+            Ending::FromSlots if is_message_there(site, third, fourth) => {
+                push_slots(hint, site, fifth, offset, 1)
+            }
+            _ => push_message(hint, site, third, fourth),
+        },
         _ => Ok(()),
     }
 }
@@ -38,19 +44,35 @@ fn bound_of(site: &Site, register: u8) -> u64 {
     }
 }
 
-/// Adds which place of the slot array may be asked for, and how many it has.
-fn push_slot(hint: &mut String, site: &Site, place: u8, array: u32) -> Result<(), AllocError> {
+/// Adds what the register, which names a place of the slot array or counts places, may be, and how many
+/// places there are. The first number that is too large is so much above their count.
+fn push_slots(
+    hint: &mut String,
+    site: &Site,
+    register: u8,
+    array: u32,
+    above: u64,
+) -> Result<(), AllocError> {
     let length = match site.image.slots().get(array as usize) {
-        Some(slots) => Number(u64::from(slots.length)),
-        None => Number(0),
+        Some(slots) => u64::from(slots.length),
+        None => 0,
     };
-    push_text(hint, "r#", &[numbered(place)])?;
-    push_most(hint, bound_of(site, place))?;
-    push_text(
-        hint,
-        ", and slot array # has the length #: jge r#, #, ..",
-        &[Number(u64::from(array)), length, numbered(place), length],
-    )
+    push_text(hint, "r#", &[numbered(register)])?;
+    push_most(hint, bound_of(site, register))?;
+    let values = [
+        Number(u64::from(array)),
+        Number(length),
+        numbered(register),
+        Number(length.saturating_add(above)),
+    ];
+    let text = ", and slot array # has the length #: jge r#, #, ..";
+    push_text(hint, text, &values)
+}
+
+/// Whether the bytes of a message lie in the memory, whatever the registers hold.
+fn is_message_there(site: &Site, address: u8, length: u8) -> bool {
+    let end = bound_of(site, address).saturating_add(bound_of(site, length));
+    end <= u64::from(site.image.memory())
 }
 
 /// Adds how far so many bytes may go from the register and the offset on.

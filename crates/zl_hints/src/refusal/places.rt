@@ -82,6 +82,8 @@ fn field_at(columns: &Columns, index: usize) -> Option<Field> {
     }
     match columns.ending {
         Ending::Room => Some(Field::Triples),
+        // its handles are in no registers
+        Ending::FromSlots => None,
         _ => columns.in_list,
     }
 }

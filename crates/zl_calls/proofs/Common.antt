@@ -67,18 +67,18 @@ pub use Rattle.zl_calls.specs.World.{CallsNext, IsPlaceOf, Machine, awaited_of, 
 pub use Rattle.zl_calls.specs.World.{state_value, world_blocked, world_value}
 pub use Rattle.zl_calls.specs.calls.Answer.{Action, Blocks, ClosesEach, Does, DoesTaking, IsAnswered, IsRefusedBy, IsTold, Replies, Told, answered_in, answers}
 pub use Rattle.zl_calls.specs.calls.Answer.{exits, has_room_in, no_value, one_value, reaches, status_of, taken_from, told_by, two_values, values_of, waits}
-pub use Rattle.zl_calls.specs.calls.Answer.{wants_memory, wants_nothing, with_stored, without_handle, without_handles}
+pub use Rattle.zl_calls.specs.calls.Answer.{wants_memory, wants_nothing, with_kept, with_stored, with_told, without_handle, without_handles}
 pub use Rattle.zl_calls.specs.calls.Async.{Cancels, PortCancelDoes, RegistersWait, WaitAsyncDoes, async_refusal, cancel_refusal, source_of, wait_for}
 pub use Rattle.zl_calls.specs.calls.Channel.{ChanCreateDoes, ChanWriteDoes, WritesMessage, fault_of, list_refusal, write_refusal}
 pub use Rattle.zl_calls.specs.calls.Event.{settable_at}
 pub use Rattle.zl_calls.specs.calls.Handle.{CloseDoes, Closes, DupDoes, Dups, ReplaceDoes, Replaces, close_answer, dup_refusal, replace_refusal}
-pub use Rattle.zl_calls.specs.calls.Handle.{replace_refusal_of}
+pub use Rattle.zl_calls.specs.calls.Handle.{HandleInfoDoes, info_values, replace_refusal_of}
 pub use Rattle.zl_calls.specs.calls.Job.{has_child_at}
 pub use Rattle.zl_calls.specs.calls.Making.{MakeDoes, MakePairDoes, MakesOne, MakesPair, pair_refusal, room_refusal}
 pub use Rattle.zl_calls.specs.calls.Port.{TakesPacket, poll_refusal, port_at}
 pub use Rattle.zl_calls.specs.calls.Process.{Drained, Ends}
 pub use Rattle.zl_calls.specs.calls.Reading.{CameFrom, ChanReadDoes, InsertsEach, IsFaultBy, ReadsMessage, front_at, front_by, front_in, read_into, told_read}
-pub use Rattle.zl_calls.specs.calls.Reading.{triple_of}
+pub use Rattle.zl_calls.specs.calls.Reading.{sizes_into, told_slots, told_unread, triple_of}
 pub use Rattle.zl_calls.specs.calls.Task.{ClosesAllEnded, ClosesEnded, ClosesHandle, CreatesProcess, EndsOrAnswers, Enters, IsCallerStill, IsCreatedAt, IsFound}
 pub use Rattle.zl_calls.specs.calls.Task.{IsReachedBy, KillsNamed, KillsTask, Parts, ProcessCreateDoes, ProcessStartDoes, StartsProcess, TaskKillDoes}
 pub use Rattle.zl_calls.specs.calls.Task.{child_refusal, create_refusal, create_refusal_of, ended_if, ended_within, ending_of, is_over, kill_refusal, lives_on}
@@ -104,10 +104,11 @@ pub use Rattle.zl_code.specs.Boot.{MOST_GRANTS, MOST_KOIDS, MOST_PROCESSES, all_
 pub use Rattle.zl_code.specs.Boot.{handle_given, handles_given, is_job, lacks_koids, may_start_with, process_with_all, rights_given, setting, started_process}
 pub use Rattle.zl_code.specs.CallTable.{awaited_by, entering_at, eventpair_create, job_create, job_set_policy, name_of, port_cancel, port_create, port_poll}
 pub use Rattle.zl_code.specs.CallTable.{port_queue, port_wait, process_create, process_start, receiver_of, stored_by, task_kill, wait_async, wait_one}
-pub use Rattle.zl_code.specs.Calls.{CallBy, may_want, wanted}
+pub use Rattle.zl_code.specs.CallTable.{chan_read_slots, chan_write_slots, handle_info, kept_by, read_refused}
+pub use Rattle.zl_code.specs.Calls.{CallBy, may_want, ok_outcome, wanted}
 pub use Rattle.zl_code.specs.Common.{signal_peer, wait_poll}
 pub use Rattle.zl_code.specs.Effects.{body_after_read, body_with_message, may_get_all, message_read, message_sent, new_entry, object_changed, process_ended}
-pub use Rattle.zl_code.specs.Effects.{signed_word, storing, told_of, waiting, with_process}
+pub use Rattle.zl_code.specs.Effects.{gets_all, keeping, signed_word, slots_filled, storing, told_of, waiting, with_process}
 unfoldable pub use Rattle.zl_code.specs.Effects.{on_object}
 pub use Rattle.zl_code.specs.Headline.{word_of}
 pub use Rattle.zl_code.specs.Image.{call_at, can_be_needed, instr_at, is_among}

@@ -10,6 +10,8 @@ pub mod HandleCalls
 pub mod EventCalls
 pub mod PairCalls
 pub mod WriteCalls
+pub mod SentSlots
+pub mod Readers
 pub mod ReadCalls
 pub mod ReaderTold
 pub mod WaitCalls

@@ -1,9 +1,9 @@
 -- The faults of handle operands by the row of a call, as its registers have them. No public clause cites this module.
-use Rattle.std.specs.Prelude.{ℕ, suc, ◌==◌, List, [], ◌∷◌, map, Option, None, if◌then◌else◌, slice_index}
+use Rattle.std.specs.Prelude.{ℕ, suc, ◌==◌, List, [], ◌∷◌, Option, None, if◌then◌else◌, slice_index}
 use Rattle.std.specs.Option.{option_or}
 use Rattle.std.specs.Result.{result_err}
 use Rattle.zl_code.specs.Common.{Cpu, Map}
-use Rattle.zl_code.specs.Asked.{listed_in}
+use Rattle.zl_code.specs.Asked.{given_in, listed_values}
 use Rattle.zl_code.specs.Instructions.{Field, names, consumes, closes}
 use Rattle.zl_code.specs.Local.{reg}
 use Rattle.zl_code.specs.declared.instr.CallInstr.{CallInstr}
@@ -26,6 +26,6 @@ fields_fault entries c [] n rs in_list = in_list
 fields_fault entries c (f ∷ fs) n rs in_list =
     option_or (field_fault entries f (reg c (slice_index rs n))) (fields_fault entries c fs (suc n) rs in_list)
 
--- the fault of the handles of a list, where the call has one in its last eight bytes
+-- the fault of the handles of a list, where the call has one
 abbrev pub last_fault : Map Entry → Cpu → Ending → CallInstr → Option Status
-last_fault entries c ending i = list_refusal entries [] (map (reg c) (listed_in ending i))
+last_fault entries c ending i = list_refusal entries [] (listed_values ending (given_in ending i c))

@@ -26,6 +26,7 @@ abbrev pub keeps_handles : CallName → Bool
 keeps_handles call.Close = false
 keeps_handles call.Replace = false
 keeps_handles call.ChanWrite = false
+keeps_handles call.ChanWriteSlots = false
 keeps_handles call.ProcessStart = false
 keeps_handles call.ProcessExit = false
 keeps_handles call.TaskKill = false

@@ -12,10 +12,10 @@ ghost use Rattle.zl_interp.specs.Common.{register_set};
 ghost use Rattle.zl_calls.specs.calls.Answer.{answered_in, no_value, status_of};
 
 use crate::calls::channel::chan_create;
-use crate::calls::channel::reading::read;
-use crate::calls::channel::writing::write;
+use crate::calls::channel::reading::{read, read_slots};
+use crate::calls::channel::writing::{write, write_slots};
 use crate::calls::event::{event_create, eventpair_create, signal, signal_peer};
-use crate::calls::handle::{close, dup, replace};
+use crate::calls::handle::{close, dup, handle_info, replace};
 use crate::calls::job::{job_create, job_set_policy};
 use crate::calls::kill::task_kill;
 use crate::calls::port::{port_cancel, port_create, port_poll, port_queue, port_wait};
@@ -297,6 +297,12 @@ fn act<const TESTED: bool>(
         CallName::EventpairCreate => {
             let made = eventpair_create(&mut process.table, objects);
             process.answer_made_two(a, b, c, made)
+        }
+        CallName::ChanWriteSlots => write_slots::<TESTED>(alloc, process, objects, call),
+        CallName::ChanReadSlots => read_slots::<TESTED>(alloc, process, objects, call),
+        CallName::HandleInfo => {
+            let told = handle_info::<TESTED>(&process.table, reg(b));
+            process.answer_info(a, c, d, told)
         }
         CallName::ProcessCreate | CallName::ProcessStart | CallName::TaskKill => unreachable!(),
     }

@@ -15,7 +15,7 @@ ghost use Rattle.zl_calls.specs.Policed.{IsDenied, Policed, on_fault, verdict_by
 ghost use Rattle.zl_calls.specs.Sure.{IsUnpoliced};
 ghost use Rattle.zl_calls.specs.calls.Channel.{fault_of};
 
-use crate::calls::channel::writing::examine_list;
+use crate::calls::channel::writing::{examine_list, examine_places, sent_places};
 use crate::calls::look_up;
 use crate::calls::process::end;
 use crate::process::{Process, Registers};
@@ -175,11 +175,14 @@ fn examine(table: &Table, cpu: &Cpu, columns: &Columns, call: &CallInstr) -> Res
     for (n, field) in columns.fields.iter().enumerate() {
         examine_one(table, *field, cpu.register(call.registers[n]))?;
     }
-    if let Ending::Handles = columns.ending {
-        let (values, count) = cpu.listed(&call.handles());
-        return examine_list(table, &values[..count]);
+    match columns.ending {
+        Ending::Handles => {
+            let (values, count) = cpu.listed(&call.handles());
+            examine_list(table, &values[..count])
+        }
+        Ending::FromSlots => examine_places(table, sent_places(cpu, call)),
+        _ => Ok(()),
     }
-    Ok(())
 }
 
 /// The fault of the value in a register of this field, if it is a handle operand that has one.

@@ -8,6 +8,7 @@ ghost use Rattle.zl_calls.specs.World.{packet_registers, seen_in, signal_registe
 ghost use Rattle.zl_code.specs.Common.{answered};
 ghost use Rattle.zl_rights.specs.Numbers.{status_magnitude};
 ghost use Rattle.zl_calls.specs.calls.Answer.{status_of, no_value, one_value, two_values, answered_in};
+ghost use Rattle.zl_calls.specs.calls.Handle.{info_values};
 ghost use Rattle.zl_calls.specs.calls.Wait.{polled_status, polled_values};
 
 use crate::calls::wait::PollFault;
@@ -17,7 +18,7 @@ use zl_code::{InstrBytes, Outcome, ProcState, Register};
 use zl_interp::Cpu;
 use zl_objects::Awaited;
 use zl_port::Packet;
-use zl_rights::{HValue, Pid, Signals, Status};
+use zl_rights::{Entry, HValue, Pid, Signals, Status};
 use zl_table::Table;
 
 /// The registers of a call.
@@ -167,6 +168,32 @@ impl Process {
         let to = [status, first, second];
         match answer {
             Ok((one, other)) => self.answered(Status::Ok, &to, &[u64::from(one), u64::from(other)]),
+            Err(refused) => self.answered(refused, &to, &[]),
+        }
+    }
+
+    /// The answer of a call that tells of a handle: its kind and its rights.
+    pub fn answer_info(
+        &mut self,
+        status: Register,
+        kind: Register,
+        rights: Register,
+        answer: Result<Entry, Status>,
+    ) -> Outcome
+        requires { self.old.cpu.counter < 2 ^ 32 }
+        ensures ends { result ≡ Outcome.Answered (status_of answer) }
+        ensures process { self.new
+            ≡ answered_in self.old (status ∷ kind ∷ rights ∷ []) info_values answer }
+    {
+        let to = [status, kind, rights];
+        match answer {
+            Ok(entry) => {
+                let values = [
+                    u64::from(entry.kind.number()),
+                    u64::from(entry.rights.bits()),
+                ];
+                self.answered(Status::Ok, &to, &values)
+            }
             Err(refused) => self.answered(refused, &to, &[]),
         }
     }

@@ -249,9 +249,9 @@ impl World {
     ///
     /// The process has to be ready and at a call. Its job's policy may keep it from making an object,
     /// or end it. It takes no memory at `close`, `replace`, `signal`, `signal_peer`, `wait_one`,
-    /// `wait_poll`, `port_wait`, `port_poll`, `port_cancel`, `process_exit`, `task_kill` and
-    /// `job_set_policy`; a call that was refused memory is answered `NoMemory`. Waits that fire or end,
-    /// processes that block, wake or are killed, and policies take none.
+    /// `wait_poll`, `port_wait`, `port_poll`, `port_cancel`, `process_exit`, `task_kill`,
+    /// `job_set_policy` and `handle_info`; a call that was refused memory is answered `NoMemory`. Waits
+    /// that fire or end, processes that block, wake or are killed, and policies take none.
     /// Source: for each call its page of the Fuchsia documentation, as "zx_handle_close"; the order
     /// in which answers are looked for is own profile.
     pub fn perform(&mut self, pid: Pid) -> Outcome

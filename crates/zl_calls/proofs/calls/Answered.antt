@@ -1,5 +1,5 @@
 -- From what a call does to its parts to the relation of calls.
-use Rattle.zl_calls.proofs.Common.{Entry, Err, Handles, IfSome, Inserts, IsTrue, List, Map, None, Objects, Ok, Option, Replies, Result, Site, Some, Status}
+use Rattle.zl_calls.proofs.Common.{Entry, Err, Handles, IfSome, Inserts, IsTrue, List, Map, None, Objects, Ok, Option, Replies, Request, Result, Site, Some, Status}
 use Rattle.zl_calls.proofs.Common.{World, [], and_from, ap, arith, cpu_answered, eq-eqb, get, map, may_get, may_get_all, nat_tests, no_value, object_value}
 use Rattle.zl_calls.proofs.Common.{on_object, on_process, process_entry, process_value, process_with, put, refl, replied, status_of, subst, sym, table_of, true}
 use Rattle.zl_calls.proofs.Common.{update, values_of, world_value, ℕ, ⊤, ◌∙◌, ◌∷◌, ◌≡◌}
@@ -9,6 +9,10 @@ use Rattle.zl_rights.specs.declared.status.Status.TheVariants as status
 use Rattle.zl_calls.specs.World.{free_entry, free_of}
 use Rattle.zl_calls.specs.declared.process.Process.{Process}
 use Rattle.zl_calls.proofs.lists.Updates.{update_itself, update_seen, update_twice}
+
+-- the site, with this request in place of its own
+abbrev pub asking : Request → Site → Site
+asking request s = record s { request = request }
 
 -- an answer that is a status alone
 pub replies_none : (s : Site) (p p2 : Process) (answer : Result ⊤ Status) → Replies s (status_of answer) (values_of no_value answer) p p2

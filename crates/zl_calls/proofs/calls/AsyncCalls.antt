@@ -2,7 +2,7 @@
 use Rattle.zl_calls.proofs.Common.{AtCall, CallName, IsAnswered, IsConsistent, Library, List, Objects, Outcome, Ready, RegistersWait, Replies, Site, Some}
 use Rattle.zl_calls.proofs.Common.{Values, WAIT, WRITE, WaitAsyncDoes, World, [], any, ap, async_refusal, effect, get, gives_ok, gives_refused, handle_operands}
 use Rattle.zl_calls.proofs.Common.{insert_all, is_mask, listed, may_choose, may_register_here, new_handles, next_for, no_value, not, operands_fault}
-use Rattle.zl_calls.proofs.Common.{plain_refusal, process_value, refl, remove_all, replied, site, state_value, subst, sym, taken_handles, told_by, wait_async}
+use Rattle.zl_calls.proofs.Common.{plain_refusal, process_value, refl, remove_all, replied, state_value, subst, sym, taken_handles, told_by, wait_async}
 use Rattle.zl_calls.proofs.Common.{wait_for, wait_of, wait_value, wants_memory, watching, world_blocked, world_value, ℕ, ◌++◌, ◌+◌, ◌∙◌, ◌∷◌, ◌≡◌}
 use Rattle.zl_rights.specs.World.{Wait as WaitValue}
 use Rattle.zl_rights.specs.declared.kind.Kind.TheVariants as kind
@@ -12,7 +12,7 @@ use Rattle.zl_objects.specs.declared.wait.Wait.{Wait}
 use Rattle.zl_calls.specs.declared.process.Process.{Process}
 use Rattle.zl_calls.proofs.calls.AmongWaits.{answered_among, ends_among}
 use Rattle.zl_calls.proofs.calls.Owned.{own_plain}
-use Rattle.zl_calls.proofs.calls.Answered.{IsWrite, same_world, table_is}
+use Rattle.zl_calls.proofs.calls.Answered.{IsWrite, asking, same_world, table_is}
 use Rattle.zl_calls.proofs.objects.SameButWaits.{beside_consistent, beside_world, watching_beside}
 use Rattle.zl_calls.proofs.calls.DoneCalls.{IsCalledAmong}
 use Rattle.zl_calls.proofs.calls.Refused.{answers, is_found, both_looked_up, two_tests}
@@ -24,9 +24,9 @@ module _ {before after : List Process} {r : Objects} {p p2 : Process} (lib : Lib
   abbrev among : List ℕ → World
   among blocked = world_blocked before r blocked
 
-  module _ (h port key mask : ℕ) (consumed destinations : List ℕ) where
+  module _ (h port key mask : ℕ) (base : Site) where
     abbrev async_site : Site
-    async_site = site (wait_async h port key mask) consumed destinations
+    async_site = asking (wait_async h port key mask) base
 
     -- ---- the answer
 

@@ -3,7 +3,7 @@ use Rattle.zl_calls.proofs.Common.{AtCall, CallName, Cancels, IsAnswered, IsCons
 use Rattle.zl_calls.proofs.Common.{Replies, Site, Source, Values, WRITE, World, [], any, cancel_refusal, changing_port, effect, filter, get, gives_ok}
 use Rattle.zl_calls.proofs.Common.{gives_refused, handle_operands, insert_all, is_from, is_keyed, list_any, listed, may_choose, new_handles, next_for, no_value}
 use Rattle.zl_calls.proofs.Common.{not, object_at, on_object, operands_fault, packets_cancelled, packets_found, plain_refusal, port_cancel, process_value, refl}
-use Rattle.zl_calls.proofs.Common.{remove_all, replied, site, source_at, source_of, state_value, taken_handles, told_by, wants_nothing, without_keyed}
+use Rattle.zl_calls.proofs.Common.{remove_all, replied, source_at, source_of, state_value, taken_handles, told_by, wants_nothing, without_keyed}
 use Rattle.zl_calls.proofs.Common.{without_packets, world_blocked, world_value, ℕ, ◌||◌, ◌∙◌, ◌∷◌, ◌≡◌}
 use Rattle.zl_rights.specs.declared.kind.Kind.TheVariants as kind
 use Rattle.zl_rights.specs.declared.status.Status.TheVariants as status
@@ -11,7 +11,7 @@ use Rattle.zl_code.specs.declared.history.Outcome.TheVariants as outcome
 use Rattle.zl_calls.specs.declared.process.Process.{Process}
 use Rattle.zl_calls.proofs.calls.AmongWaits.{answered_among, ends_among}
 use Rattle.zl_calls.proofs.calls.Owned.{own_plain}
-use Rattle.zl_calls.proofs.calls.Answered.{IsWrite, table_is}
+use Rattle.zl_calls.proofs.calls.Answered.{IsWrite, asking, table_is}
 use Rattle.zl_calls.proofs.objects.SameButWaits.{beside_consistent, beside_world}
 use Rattle.zl_calls.proofs.calls.DoneCalls.{IsCalledAmong}
 use Rattle.zl_calls.proofs.calls.Refused.{answers, is_found, both_looked_up, one_test}
@@ -23,9 +23,9 @@ module _ {before after : List Process} {r : Objects} {p p2 : Process} (lib : Lib
   abbrev among : List ℕ → World
   among blocked = world_blocked before r blocked
 
-  module _ (port source key : ℕ) (consumed destinations : List ℕ) where
+  module _ (port source key : ℕ) (base : Site) where
     abbrev cancel_site : Site
-    cancel_site = site (port_cancel port source key) consumed destinations
+    cancel_site = asking (port_cancel port source key) base
 
     -- ---- the answer
 

@@ -3,7 +3,7 @@ use Rattle.zl_calls.proofs.Common.{Entry, IsConsistent, IsNamed, Library, List, 
 use Rattle.zl_calls.proofs.Common.{ap, bits, body_in, body_of, body_value, changing, effect, event_create, get, get_seen, gives_ok, gives_refused}
 use Rattle.zl_calls.proofs.Common.{handle_operands, has_koids, has_room, insert_all, is_some, kind_of, listed, map, may_choose, new_handles, no_value, not}
 use Rattle.zl_calls.proofs.Common.{object_changed, object_entry, on_object, one_value, operands_fault, peer_here, plain_refusal, process_value, raised_changed}
-use Rattle.zl_calls.proofs.Common.{refl, remove_all, replied, runs, settable_at, settable_of, signal, signal_peer, site, sym, taken_handles, told_by}
+use Rattle.zl_calls.proofs.Common.{refl, remove_all, replied, runs, settable_at, settable_of, signal, signal_peer, sym, taken_handles, told_by}
 use Rattle.zl_calls.proofs.Common.{wants_nothing, within, world_value, ℕ, ⊤, ◌∙◌, ◌∷◌, ◌≡◌}
 use Rattle.zl_code.specs.Tests.{peer_at}
 use Rattle.zl_rights.specs.declared.kind.Kind.TheVariants as kind
@@ -16,7 +16,7 @@ use Rattle.zl_calls.specs.declared.process.Process.{Process}
 use Rattle.zl_calls.specs.calls.Event.{EventCreateDoes, SignalsObject, SignalDoes, signal_refusal, SignalsPeer, SignalPeerDoes}
 use Rattle.zl_calls.specs.calls.Event.{peer_signal_refusal, may_change_at}
 use Rattle.zl_calls.proofs.calls.Owned.{own_plain}
-use Rattle.zl_calls.proofs.calls.Answered.{IsWrite, replied_changed, table_is}
+use Rattle.zl_calls.proofs.calls.Answered.{IsWrite, asking, replied_changed, table_is}
 use Rattle.zl_calls.proofs.calls.DoneCalls.{IsDoneBy, IsCalled, answered_done}
 use Rattle.zl_calls.proofs.calls.MakeCalls.{made_done, room_refused}
 use Rattle.zl_calls.proofs.calls.Refused.{answers, any_looked_up, first_looked_up, is_found, two_tests}
@@ -40,9 +40,9 @@ module _ {before after : List Process} {r : Objects} {p p2 : Process} (lib : Lib
 
   -- ---- event_create
 
-  module _ (consumed destinations : List ℕ) where
+  module _ (base : Site) where
     abbrev create_site : Site
-    create_site = site event_create consumed destinations
+    create_site = asking event_create base
 
     pub event_done : IsDoneBy lib before after r r2 p p2 create_site (told_by one_value) EventCreateDoes
     unfolding plain_refusal handle_operands operands_fault listed has_room has_koids taken_handles remove_all gives_refused may_choose
@@ -71,9 +71,9 @@ module _ {before after : List Process} {r : Objects} {p p2 : Process} (lib : Lib
 
   -- ---- signal and signal_peer
 
-  module _ (h clear set : ℕ) (consumed destinations : List ℕ) where
+  module _ (h clear set : ℕ) (base : Site) where
     abbrev signal_site : Site
-    signal_site = site (signal h clear set) consumed destinations
+    signal_site = asking (signal h clear set) base
 
     refused_signal : plain_refusal lib w p.pid signal_site.request ≡ answers (signal_refusal p.table.entries h clear set)
     unfolding handle_operands operands_fault listed
@@ -107,7 +107,7 @@ module _ {before after : List Process} {r : Objects} {p p2 : Process} (lib : Lib
         (signal_refusal p.table.entries h clear set) (λ answer acts. acts) refused_signal refl refl (λ answer. refl) signal_called
 
     abbrev peer_site : Site
-    peer_site = site (signal_peer h clear set) consumed destinations
+    peer_site = asking (signal_peer h clear set) base
 
     refused_peer : plain_refusal lib w p.pid peer_site.request ≡ answers (peer_signal_refusal p.table.entries r.objects h clear set)
     unfolding handle_operands operands_fault listed

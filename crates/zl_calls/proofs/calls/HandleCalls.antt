@@ -1,16 +1,16 @@
--- The calls on handles, close, dup and replace, each from its table and objects to a step.
-use Rattle.zl_calls.proofs.Common.{AtCall, Bool, CallName, PlainCalls, CloseDoes, Closes, DUPLICATE, DupDoes, Dups, Entry, IsConsistent, IsNamed, AreSound}
-use Rattle.zl_calls.proofs.Common.{IsTable, IsTrue, Library, List, Map, None, Objects, Option, Ready, Refused, ReplaceDoes, Replaces, Replies, Site, Some}
-use Rattle.zl_calls.proofs.Common.{Status, Values, World, [], any, ap, arith, bits, cases_Bool, close, close_answer, cond, copy_of, cpu_answered}
-use Rattle.zl_calls.proofs.Common.{default_rights_of, dup, dup_refusal, effect, entry_at, eq-eqb, eqb-true, false, first_some, get, get-put, get-update}
-use Rattle.zl_calls.proofs.Common.{get-without, gives_ok, gives_refused, granted, handle_operands, handles_to, has_key, has_key-update, has_place, has_room}
-use Rattle.zl_calls.proofs.Common.{has_room_in, held_once_more, holding, if◌then◌else◌, inl, inr, insert_all, is_empty, is_some, is_sorted, is_sorted-update}
-use Rattle.zl_calls.proofs.Common.{listed, map, may_choose, narrowed, nat_cmp, nat_lt, nat_tests, new_handles, next_for, no_value, not, object_value}
-use Rattle.zl_calls.proofs.Common.{on_process, one_value, operands_fault, option_map, option_or, passes, process_entry, process_value, process_with}
-use Rattle.zl_calls.proofs.Common.{process_without, put, refl, plain_refusal, remove_all, replace, replace_refusal, replied, result_err, same_Some, same_map}
-use Rattle.zl_calls.proofs.Common.{site, sorted_put, sorted_without, state_value, status_of, subst, sym, table_of, taken, taken_handles, told_by, true, update}
-use Rattle.zl_calls.proofs.Common.{wants_nothing, wants_memory, with_effect, with_rights, within, without, without_handle, world_value, ℕ, ◌<◌, ◌==◌, ◌^◌, ◌||◌}
-use Rattle.zl_calls.proofs.Common.{◌∙◌, ◌∷◌, ◌≡◌, ◌⊎◌}
+-- The calls on handles, close, dup, replace and handle_info, each from its table and objects to a step.
+use Rattle.zl_calls.proofs.Common.{AreSound, AtCall, Bool, CallName, CloseDoes, Closes, DUPLICATE, Does, DupDoes, Dups, Entry, Err, HandleInfoDoes}
+use Rattle.zl_calls.proofs.Common.{IsConsistent, IsNamed, IsRefusedBy, IsTable, IsTrue, Library, List, Map, None, Objects, Ok, Option, PlainCalls, Ready}
+use Rattle.zl_calls.proofs.Common.{Refused, ReplaceDoes, Replaces, Replies, Result, Site, Some, Status, Values, World, [], any, ap, arith, bits, cases_Bool}
+use Rattle.zl_calls.proofs.Common.{close, close_answer, cond, copy_of, cpu_answered, default_rights_of, dup, dup_refusal, effect, entry_at, eq-eqb, eqb-true}
+use Rattle.zl_calls.proofs.Common.{false, first_some, get, get-put, get-update, get-without, gives_ok, gives_refused, granted, handle_info, handle_operands}
+use Rattle.zl_calls.proofs.Common.{handles_to, has_key, has_key-update, has_place, has_room, has_room_in, held_once_more, holding, if◌then◌else◌, info_values}
+use Rattle.zl_calls.proofs.Common.{inl, inr, insert_all, is_empty, is_process, is_some, is_sorted, is_sorted-update, length, listed, lives, looked_up, map}
+use Rattle.zl_calls.proofs.Common.{may_choose, narrowed, nat_cmp, nat_lt, nat_tests, new_handles, next_for, no_value, not, object_value, on_process, one_value}
+use Rattle.zl_calls.proofs.Common.{operands_fault, option_map, option_or, passes, plain_refusal, process_entry, process_value, process_with, process_without}
+use Rattle.zl_calls.proofs.Common.{put, refl, remove_all, replace, replace_refusal, replied, result_err, same_Some, same_map, sorted_put, sorted_without}
+use Rattle.zl_calls.proofs.Common.{state_value, status_of, subst, sym, table_of, taken, taken_handles, told_by, true, update, wants_memory, wants_nothing}
+use Rattle.zl_calls.proofs.Common.{with_effect, with_rights, within, without, without_handle, world_value, ℕ, ◌<◌, ◌==◌, ◌^◌, ◌||◌, ◌∙◌, ◌∷◌, ◌≡◌, ◌⊎◌}
 use Rattle.zl_code.proofs.SoundKept.{none_raised}
 use Rattle.zl_code.proofs.Common.{Object as ObjectValue, Process as ProcessValue, narrowed_within}
 use Rattle.zl_rights.specs.declared.status.Status.TheVariants as status
@@ -20,13 +20,13 @@ use Rattle.zl_calls.proofs.objects.SameButWaits.{beside_consistent, beside_world
 use Rattle.zl_code.specs.Own.{taken_all}
 use Rattle.zl_rights.proofs.Values.{given_taken}
 use Rattle.zl_rights.specs.Values.{coming}
-use Rattle.zl_calls.proofs.Common.{is_process, length, lives}
+use Rattle.zl_code.specs.Tests.{info_of}
 use Rattle.zl_calls.proofs.calls.Owned.{IsOwn, own_call_of, own_entered, own_plain, own_refused, own_written}
-use Rattle.zl_calls.proofs.calls.Answered.{IsWrite, table_is, replies_none, replied_with, may_get_inserted, replied_inserted}
+use Rattle.zl_calls.proofs.calls.Answered.{IsWrite, asking, may_get_inserted, replied_inserted, replied_with, replies_none, same_world, table_is}
 use Rattle.zl_calls.proofs.calls.DoneCalls.{IsDone, IsDoneBy, IsCalled, answered_done}
 use Rattle.zl_calls.proofs.step.FromConsistent.{call_settles, full_counted}
 use Rattle.zl_calls.proofs.objects.Counting.{counts_written, sum_update}
-use Rattle.zl_calls.proofs.calls.Refused.{answers, any_looked_up, one_test, three_tests}
+use Rattle.zl_calls.proofs.calls.Refused.{answers, any_looked_up, first_looked_up, is_found, one_test, three_tests}
 use Rattle.zl_calls.proofs.calls.TakenCalls.{closed, replied_taking, taking_done}
 use Rattle.zl_calls.proofs.objects.Settled.{IsSettled, still_settles, sound_of}
 use Rattle.zl_calls.proofs.processes.Written.{refusal_keeps, entered, one_entered, same_agrees}
@@ -71,14 +71,14 @@ module _ {before after : List Process} {r : Objects} {p p2 : Process} (lib : Lib
 
   -- ---- close
 
-  module _ (h : ℕ) (consumed destinations : List ℕ)
+  module _ (h : ℕ) (base : Site)
       (answer : Status) (is_answer : answer ≡ close_answer p.table.entries h) (table : p2.table ≡ without_handle p.table h)
       (objects : Closes (get p.table.entries h) r r2)
-      (replies : Replies (site (close h) consumed destinations) answer [] p p2) where
+      (replies : Replies (asking (close h) base) answer [] p p2) where
     -- ---- the relation of calls
 
     abbrev close_site : Site
-    close_site = site (close h) consumed destinations
+    close_site = asking (close h) base
 
     close_ends : world_value after r ≡ replied (taken w p.pid close_site) p.pid close_site answer []
     unfolding remove_all taken_handles handle_operands on_process
@@ -129,17 +129,17 @@ module _ {before after : List Process} {r : Objects} {p p2 : Process} (lib : Lib
       consistent = closes.consistent;
     }
 
-  pub close_done : (h : ℕ) (consumed destinations : List ℕ)
-      → IsDoneBy lib before after r r2 p p2 (site (close h) consumed destinations) (told_by no_value) (CloseDoes h)
-  close_done h consumed destinations ready call next o acts =
-      rw acts.ends (close_answered h consumed destinations (status_of acts.answer) acts.acts.answered acts.acts.table acts.acts.objects
-      (replies_none (site (close h) consumed destinations) p p2 acts.answer acts.replied) ready call next)
+  pub close_done : (h : ℕ) (base : Site)
+      → IsDoneBy lib before after r r2 p p2 (asking (close h) base) (told_by no_value) (CloseDoes h)
+  close_done h base ready call next o acts =
+      rw acts.ends (close_answered h base (status_of acts.answer) acts.acts.answered acts.acts.table acts.acts.objects
+      (replies_none (asking (close h) base) p p2 acts.answer acts.replied) ready call next)
 
   -- ---- dup
 
-  module _ (h asked : ℕ) (consumed destinations : List ℕ) where
+  module _ (h asked : ℕ) (base : Site) where
     abbrev dup_site : Site
-    dup_site = site (dup h asked) consumed destinations
+    dup_site = asking (dup h asked) base
 
     refused : plain_refusal lib w p.pid dup_site.request ≡ answers (dup_refusal p.table.entries r.objects h asked)
     unfolding handle_operands operands_fault listed has_room
@@ -216,9 +216,9 @@ module _ {before after : List Process} {r : Objects} {p p2 : Process} (lib : Lib
 
   -- ---- replace
 
-  module _ (h asked : ℕ) (consumed destinations : List ℕ) where
+  module _ (h asked : ℕ) (base : Site) where
     abbrev replace_site : Site
-    replace_site = site (replace h asked) consumed destinations
+    replace_site = asking (replace h asked) base
 
     replace_refused : plain_refusal lib w p.pid replace_site.request ≡ answers (replace_refusal p.table.entries h asked)
     unfolding handle_operands operands_fault listed
@@ -327,3 +327,55 @@ module _ {before after : List Process} {r : Objects} {p p2 : Process} (lib : Lib
     replace_done ready call next o acts =
         taking_done lib r2 consistent write ready call replace_site next (h ∷ []) refl one_value (Replaces p.pid p.table r h asked) wants_nothing
         (replace_refusal p.table.entries h asked) replace_refused refl (λ answer. refl) replace_called o acts.answer acts.acts acts.replied acts.ends
+
+  -- ---- handle_info
+
+  module _ (h : ℕ) (base : Site) where
+    abbrev info_site : Site
+    info_site = asking (handle_info h) base
+
+    abbrev found : Result Entry Status
+    found = looked_up p.table.entries h [] 0
+
+    info_refused : plain_refusal lib w p.pid (handle_info h) ≡ answers (result_err found)
+    unfolding handle_operands operands_fault listed
+    info_refused =
+        first_looked_up lib w p.pid p.table.entries (table_is write r) (handle_info h) (result_err found) h any 0 None refl (λ s is. rw is refl)
+        (λ e is at. rw is refl)
+
+    info_does : (answer : Result Entry Status) → HandleInfoDoes h p.table r answer p2.table r2
+        → Does (λ e t2 o2. HandleInfoDoes h p.table r (Ok e) t2 o2) wants_nothing (result_err found) p.table r answer p2.table r2
+    info_does (Ok e) acts = record { ok = acts; err = tt; same_table = tt; same_objects = tt }
+    info_does (Err s) acts = record {
+      ok = tt;
+      err = subst (λ (x : Result Entry Status). IsRefusedBy wants_nothing (result_err x) s) acts.answered refl;
+      same_table = acts.table;
+      same_objects = acts.objects;
+    }
+
+    info_called : (e : Entry) → HandleInfoDoes h p.table r (Ok e) p2.table r2 → Replies info_site status.Ok (info_values e) p p2
+        → IsCalled lib before after r r2 p.pid info_site (outcome.Answered status.Ok)
+    unfolding may_choose effect gives_ok gives_refused new_handles insert_all remove_all taken_handles handle_operands
+    info_called e acts replies = record {
+      calls = (
+        Values [],
+        rw (info_refused, ← acts.answered) (
+          rw write.there refl,
+          refl,
+          same_world write r r2 info_site status.Ok (info_values e) acts.table acts.objects replies
+              ∙ ap (λ (o : Option Entry). replied w p.pid info_site status.Ok (info_of o)) (sym seen),
+        ),
+      );
+      own = λ living. own_plain write r living info_site.request
+          (record { none = refl; chosen = refl; made = refl; own = refl }) [] [] refl acts.table;
+      keeps = subst (IsConsistent after) (sym acts.objects) (refusal_keeps write r consistent acts.table (ap (λ (q : Process). q.state) replies));
+    }
+      where
+        seen : entry_at w p.pid h ≡ Some e
+        seen = rw (table_is write r) (is_found (get p.table.entries h) [] 0 e (sym acts.answered))
+
+    pub info_done : IsDoneBy lib before after r r2 p p2 info_site (told_by info_values) (HandleInfoDoes h)
+    unfolding taken_handles handle_operands remove_all gives_refused
+    info_done =
+        answered_done lib r2 consistent write info_site info_values (HandleInfoDoes h) (λ e t2 o2. HandleInfoDoes h p.table r (Ok e) t2 o2) wants_nothing
+        (result_err found) info_does info_refused refl refl (λ answer. refl) (λ e acts replies. info_called e acts replies)

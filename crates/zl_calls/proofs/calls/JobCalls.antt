@@ -6,7 +6,7 @@ use Rattle.zl_calls.proofs.Common.{handle_operands, has_child, has_child_at, has
 use Rattle.zl_calls.proofs.Common.{is_job_at, is_some, job_at, job_create, job_set_policy, job_shown, job_within_here, keeper_of, kind_of, listed, looked_up}
 use Rattle.zl_calls.proofs.Common.{map, may_choose, nat_le, new_entry, new_handles, new_in, no_value, not, object_at, object_value, on_object, on_process}
 use Rattle.zl_calls.proofs.Common.{one_value, operands_fault, option_or, policy_changed, policy_in, process_entry, process_shown, process_value, process_with}
-use Rattle.zl_calls.proofs.Common.{refl, plain_refusal, remove_all, replied, result_err, runs, setting_policy, site, subst, sym, taken_handles, takes}
+use Rattle.zl_calls.proofs.Common.{refl, plain_refusal, remove_all, replied, result_err, runs, setting_policy, subst, sym, taken_handles, takes}
 use Rattle.zl_calls.proofs.Common.{then_some, told_by, true, wants_nothing, wants_memory, with_new, with_object, with_policy_body, with_policy_set, world_value}
 use Rattle.zl_calls.proofs.Common.{ℕ, ⊤, ◌&&◌, ◌+◌, ◌==◌, ◌^◌, ◌||◌, ◌∙◌, ◌∷◌, ◌≡◌}
 use Rattle.zl_code.proofs.Common.{Action, Body as BodyValue, body_with_policy, policy_set, setting_of}
@@ -26,7 +26,7 @@ use Rattle.zl_calls.specs.calls.Job.{CreatesJob, JobCreateDoes, JobSetPolicyDoes
 use Rattle.zl_calls.specs.calls.Job.{policy_refusal, policy_refusal_of}
 use Rattle.zl_calls.proofs.objects.Active.{states_shown}
 use Rattle.zl_calls.proofs.calls.Owned.{own_plain}
-use Rattle.zl_calls.proofs.calls.Answered.{IsWrite, replied_changed, table_is}
+use Rattle.zl_calls.proofs.calls.Answered.{IsWrite, asking, replied_changed, table_is}
 use Rattle.zl_calls.proofs.calls.DoneCalls.{IsDoneBy, IsCalled, answered_done}
 use Rattle.zl_calls.proofs.objects.Grown.{job_grown}
 use Rattle.zl_calls.proofs.calls.MakeCalls.{made_called}
@@ -140,9 +140,9 @@ module _ {before after : List Process} {r : Objects} {p p2 : Process} (lib : Lib
 
   -- ---- job_create
 
-  module _ (j : ℕ) (consumed destinations : List ℕ) where
+  module _ (j : ℕ) (base : Site) where
     abbrev create_site : Site
-    create_site = site (job_create j) consumed destinations
+    create_site = asking (job_create j) base
 
     refused_create : plain_refusal lib w p.pid create_site.request ≡ answers (job_refusal p.table.entries r j)
     unfolding handle_operands operands_fault listed has_room has_koids
@@ -207,9 +207,9 @@ module _ {before after : List Process} {r : Objects} {p p2 : Process} (lib : Lib
 
   -- ---- job_set_policy
 
-  module _ (j mode condition action : ℕ) (consumed destinations : List ℕ) where
+  module _ (j mode condition action : ℕ) (base : Site) where
     abbrev set_site : Site
-    set_site = site (job_set_policy j mode condition action) consumed destinations
+    set_site = asking (job_set_policy j mode condition action) base
 
     refused_set : plain_refusal lib w p.pid set_site.request ≡ answers (policy_refusal p.table.entries r.objects j mode condition action)
     unfolding handle_operands operands_fault listed

@@ -2,7 +2,7 @@
 use Rattle.zl_calls.proofs.Common.{Agrees, Bool, CallBy, Entry, Inserts, IsConsistent, IsNamed, IsTrue, Library, List, MakeDoes, MakesOne, Map, None, Objects}
 use Rattle.zl_calls.proofs.Common.{Replies, Site, Some, Values, World, [], answer_if, ap, arith, body_value, false, first_some, get, has_room_in, is_in_job}
 use Rattle.zl_calls.proofs.Common.{is_process, kind_in, length, map, may_get, may_want, nat_le, nat_tests, new_entry, new_object, none-some, not, on_process}
-use Rattle.zl_calls.proofs.Common.{one_value, plain_refusal, process_entry, process_value, process_with, refl, replied, room_refusal, sym, taken, then_some}
+use Rattle.zl_calls.proofs.Common.{one_value, plain_refusal, process_entry, process_value, process_with, refl, replied, room_refusal, sym, then_some}
 use Rattle.zl_calls.proofs.Common.{told_by, true, wants_memory, with_new, with_object, world_value, ℕ, ◌&&◌, ◌+◌, ◌<◌, ◌^◌, ◌∙◌, ◌∷◌, ◌≡◌}
 use Rattle.zl_code.proofs.Common.{Object as ObjectValue, State}
 use Rattle.zl_rights.specs.declared.status.Status.TheVariants as status

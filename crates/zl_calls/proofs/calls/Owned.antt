@@ -7,7 +7,7 @@ use Rattle.zl_calls.proofs.processes.Departed.{settled_world}
 use Rattle.zl_code.proofs.Common.{Choice, Process as ProcessValue, Refused, Values, Wants}
 use Rattle.zl_code.specs.CallTable.{choosing, new_handles, receiver_of}
 use Rattle.zl_code.specs.Own.{OwnWorld, all_given, entered_free, free_at, given_by, left_free, own_values, taken_all}
-use Rattle.zl_rights.specs.Values.{coming, given_back, offered}
+use Rattle.zl_rights.specs.Values.{coming, given_back}
 use Rattle.zl_calls.specs.World.{free_entry}
 use Rattle.zl_calls.specs.declared.process.Process.{Process}
 use Rattle.zl_calls.proofs.calls.Answered.{IsWrite, with_table}

@@ -4,8 +4,8 @@ use Rattle.zl_calls.proofs.Common.{MakesPair, Map, None, Objects, Pair, Replies,
 use Rattle.zl_calls.proofs.Common.{chan_create, cond, count_by, effect, eventpair_create, false, first_some, get, gives_ok, gives_refused, handle_operands}
 use Rattle.zl_calls.proofs.Common.{handles_to, has_koids, has_room, insert_all, length, listed, map, may_choose, may_get_all, may_want, nat_le, nat_tests}
 use Rattle.zl_calls.proofs.Common.{ne_eqb, new_entry, new_handles, new_object, none-some, not, object_value, on_process, operands_fault, pair_refusal}
-use Rattle.zl_calls.proofs.Common.{plain_refusal, process_entry, process_value, process_with, put, refl, remove_all, replied, runs, site, subst, sum_by-cons}
-use Rattle.zl_calls.proofs.Common.{sym, taken, taken_handles, then_some, told_by, true, two_values, wants_memory, with_new, with_object, world_value, ℕ, ◌&&◌}
+use Rattle.zl_calls.proofs.Common.{plain_refusal, process_entry, process_value, process_with, put, refl, remove_all, replied, runs, subst, sum_by-cons}
+use Rattle.zl_calls.proofs.Common.{sym, taken_handles, then_some, told_by, true, two_values, wants_memory, with_new, with_object, world_value, ℕ, ◌&&◌}
 use Rattle.zl_calls.proofs.Common.{◌+◌, ◌==◌, ◌^◌, ◌∙◌, ◌∷◌, ◌≡◌, ◌≤◌}
 use Rattle.zl_code.proofs.Common.{Object}
 use Rattle.zl_rights.specs.declared.status.Status.TheVariants as status
@@ -16,7 +16,7 @@ use Rattle.zl_objects.specs.Objects.{end_to, kind_of_pair}
 use Rattle.zl_calls.specs.declared.process.Process.{Process}
 use Rattle.zl_calls.specs.calls.Event.{EventpairCreateDoes}
 use Rattle.zl_calls.proofs.calls.Owned.{IsMaker, own_plain}
-use Rattle.zl_calls.proofs.calls.Answered.{IsWrite, table_is, may_get_both, replied_inserted_two}
+use Rattle.zl_calls.proofs.calls.Answered.{IsWrite, asking, may_get_both, replied_inserted_two, table_is}
 use Rattle.zl_calls.proofs.objects.Counting.{count_put, counts_written}
 use Rattle.zl_calls.proofs.calls.DoneCalls.{IsDoneBy, IsCalled, answered_done}
 use Rattle.zl_calls.proofs.objects.Grown.{IsGrowing, end_kind, end_quiet, end_rights, grown_named, grown_one, grown_seen, growing_none, there_grown}
@@ -191,17 +191,17 @@ module _ {before after : List Process} {r : Objects} {p p2 : Process} (lib : Lib
 
   -- ---- the two calls
 
-  module _ (consumed destinations : List ℕ) where
-    pub chan_create_done : IsDoneBy lib before after r r2 p p2 (site chan_create consumed destinations) (told_by two_values) ChanCreateDoes
+  module _ (base : Site) where
+    pub chan_create_done : IsDoneBy lib before after r r2 p p2 (asking chan_create base) (told_by two_values) ChanCreateDoes
     unfolding plain_refusal handle_operands operands_fault listed has_room has_koids taken_handles remove_all gives_refused may_choose
         new_handles effect insert_all gives_ok
-    chan_create_done = pair_done (site chan_create consumed destinations) pair.Channel (rw (table_is write r) pair_refused) refl
+    chan_create_done = pair_done (asking chan_create base) pair.Channel (rw (table_is write r) pair_refused) refl
         (record { none = refl; chosen = refl; made = refl; own = refl }) (λ answer. refl)
         (λ made may ends. (rw (write.there, may) refl, refl, ends))
 
-    pub eventpair_done : IsDoneBy lib before after r r2 p p2 (site eventpair_create consumed destinations) (told_by two_values) EventpairCreateDoes
+    pub eventpair_done : IsDoneBy lib before after r r2 p p2 (asking eventpair_create base) (told_by two_values) EventpairCreateDoes
     unfolding plain_refusal handle_operands operands_fault listed has_room has_koids taken_handles remove_all gives_refused may_choose
         new_handles effect insert_all gives_ok
-    eventpair_done = pair_done (site eventpair_create consumed destinations) pair.Eventpair (rw (table_is write r) pair_refused) refl
+    eventpair_done = pair_done (asking eventpair_create base) pair.Eventpair (rw (table_is write r) pair_refused) refl
         (record { none = refl; chosen = refl; made = refl; own = refl }) (λ answer. refl)
         (λ made may ends. (rw (write.there, may) refl, refl, ends))

@@ -4,7 +4,7 @@ use Rattle.zl_calls.proofs.Common.{Values, WRITE, World, [], ap, awaited_by, bod
 use Rattle.zl_calls.proofs.Common.{has_koids, has_room, insert_all, is_empty, is_full, listed, may_choose, new_handles, new_port, no_value, none-some}
 use Rattle.zl_calls.proofs.Common.{object_at, on_object, one_value, operands_fault, packet_awaited, packet_taken, packet_values, packets_at, packets_found}
 use Rattle.zl_calls.proofs.Common.{plain_refusal, poll_refusal, port_at, port_create, port_poll, port_queue, port_wait, refl, remove_all, replied, result_err}
-use Rattle.zl_calls.proofs.Common.{runs, same_Some, site, slice_get, sym, taken_handles, told_by, wants_memory, wants_nothing, with_packet, without_front}
+use Rattle.zl_calls.proofs.Common.{runs, same_Some, slice_get, sym, taken_handles, told_by, wants_memory, wants_nothing, with_packet, without_front}
 use Rattle.zl_calls.proofs.Common.{world_value, ℕ, ⊤, ◌++◌, ◌∙◌, ◌∷◌, ◌≡◌}
 use Rattle.zl_rights.specs.declared.kind.Kind.TheVariants as kind
 use Rattle.zl_rights.specs.declared.status.Status.TheVariants as status
@@ -14,7 +14,7 @@ use Rattle.zl_code.specs.Waiting.{packets_in}
 use Rattle.zl_calls.specs.declared.process.Process.{Process}
 use Rattle.zl_calls.specs.calls.Port.{PortCreateDoes, PortPollDoes, PortQueueDoes, PortWaitDoes, QueuesPacket, queue_refusal}
 use Rattle.zl_calls.proofs.calls.Owned.{own_plain}
-use Rattle.zl_calls.proofs.calls.Answered.{IsWrite, table_is}
+use Rattle.zl_calls.proofs.calls.Answered.{IsWrite, asking, table_is}
 use Rattle.zl_calls.proofs.calls.DoneCalls.{IsDoneBy, IsCalled, answered_done}
 use Rattle.zl_calls.proofs.calls.MakeCalls.{made_done, room_refused}
 use Rattle.zl_calls.proofs.calls.Refused.{answers, is_found, first_looked_up, one_test}
@@ -28,9 +28,9 @@ module _ {before after : List Process} {r : Objects} {p p2 : Process} (lib : Lib
 
   -- ---- port_create
 
-  module _ (consumed destinations : List ℕ) where
+  module _ (base : Site) where
     abbrev create_site : Site
-    create_site = site port_create consumed destinations
+    create_site = asking port_create base
 
     pub port_create_done : IsDoneBy lib before after r r2 p p2 create_site (told_by one_value) PortCreateDoes
     unfolding plain_refusal handle_operands operands_fault listed has_room has_koids taken_handles remove_all gives_refused may_choose
@@ -42,9 +42,9 @@ module _ {before after : List Process} {r : Objects} {p p2 : Process} (lib : Lib
 
   -- ---- port_queue
 
-  module _ (port key value : ℕ) (consumed destinations : List ℕ) where
+  module _ (port key value : ℕ) (base : Site) where
     abbrev queue_site : Site
-    queue_site = site (port_queue port key value) consumed destinations
+    queue_site = asking (port_queue port key value) base
 
     refused_queue : plain_refusal lib w p.pid queue_site.request ≡ answers (queue_refusal p.table.entries r.objects port)
     unfolding handle_operands operands_fault listed
@@ -123,9 +123,9 @@ module _ {before after : List Process} {r : Objects} {p p2 : Process} (lib : Lib
 
   -- ---- port_poll
 
-  module _ (port : ℕ) (consumed destinations : List ℕ) where
+  module _ (port : ℕ) (base : Site) where
     abbrev poll_site : Site
-    poll_site = site (port_poll port) consumed destinations
+    poll_site = asking (port_poll port) base
 
     refused_poll : plain_refusal lib w p.pid poll_site.request ≡ answers (poll_refusal p.table.entries r.objects port)
     unfolding handle_operands operands_fault listed
@@ -152,9 +152,9 @@ module _ {before after : List Process} {r : Objects} {p p2 : Process} (lib : Lib
 
   -- ---- port_wait
 
-  module _ (port : ℕ) (consumed destinations : List ℕ) where
+  module _ (port : ℕ) (base : Site) where
     abbrev wait_site : Site
-    wait_site = site (port_wait port) consumed destinations
+    wait_site = asking (port_wait port) base
 
     refused_wait : plain_refusal lib w p.pid wait_site.request ≡ answers (result_err (port_at p.table.entries port READ))
     unfolding handle_operands operands_fault listed

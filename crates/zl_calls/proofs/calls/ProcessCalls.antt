@@ -2,7 +2,7 @@
 use Rattle.zl_calls.proofs.Common.{AtCall, CallName, Ended, Ends, Entry, IsActed, IsConsistent, IsNamed, IsStuck, IsTable, Library, List, Map, Objects}
 use Rattle.zl_calls.proofs.Common.{PlainCalls, Ready, Releases, STUCK, Settles, Site, Some, Values, World, [], ap, arith, count_by, effect, ended, false≢true}
 use Rattle.zl_calls.proofs.Common.{get, handle_operands, insert_all, listed, may_choose, new_handles, next_for, none-some, on_process, operands_fault}
-use Rattle.zl_calls.proofs.Common.{plain_refusal, process_exit, process_value, refl, releases_then, remove_all, signed_word, site, state_value, stopping, subst}
+use Rattle.zl_calls.proofs.Common.{plain_refusal, process_exit, process_value, refl, releases_then, remove_all, signed_word, state_value, stopping, subst}
 use Rattle.zl_calls.proofs.Common.{taken_handles, world_value, ℕ, ℤ, ◌+◌, ◌==◌, ◌∙◌, ◌≡◌}
 use Rattle.zl_code.proofs.Common.{Process as ProcessValue}
 use Rattle.zl_code.specs.declared.history.Outcome.TheVariants as outcome
@@ -10,7 +10,7 @@ use Rattle.zl_code.specs.declared.history.TraceItem.TheVariants as item
 use Rattle.zl_calls.specs.declared.process.State.TheVariants as state
 use Rattle.zl_code.specs.Effects.{process_ended as process_over}
 use Rattle.zl_calls.specs.declared.process.Process.{Process}
-use Rattle.zl_calls.proofs.calls.Answered.{IsWrite}
+use Rattle.zl_calls.proofs.calls.Answered.{IsWrite, asking}
 use Rattle.zl_calls.proofs.calls.DoneCalls.{IsDone}
 use Rattle.zl_calls.proofs.calls.Owned.{IsOwn, own_call_of, own_in}
 use Rattle.zl_calls.proofs.processes.Freed.{free_written}
@@ -98,9 +98,9 @@ module _ {before after : List Process} {r : Objects} {p p2 : Process} (lib : Lib
 
   -- ---- process_exit
 
-  module _ (n : ℕ) (is : code ≡ signed_word n) (consumed destinations : List ℕ) where
+  module _ (n : ℕ) (is : code ≡ signed_word n) (base : Site) where
     abbrev s : Site
-    s = site (process_exit n) consumed destinations
+    s = asking (process_exit n) base
 
     exit_calls : (c : PlainCalls lib w p.pid s (outcome.Ended code) (world_value after r)) ×
         (is_process w lives p.pid ≡ true → IsOwn before after r p.pid s.request c.0)

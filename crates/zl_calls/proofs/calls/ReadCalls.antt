@@ -1,433 +1,103 @@
--- The call chan_read_etc, from its table and objects to a step.
-use Rattle.zl_calls.proofs.Common.{All, All-head, All-nil, All-tail, AreNamed, AreSound, Bool, ChanReadDoes, Entry, Err, IsConsistent, IsFaultBy, IsNamed}
-use Rattle.zl_calls.proofs.Common.{IsTold, IsTrue, Library, List, Map, Message, None, Objects, Ok, Option, Outcome, READ, ReadFault, ReadsMessage, Received}
-use Rattle.zl_calls.proofs.Common.{Refused, Result, Site, Some, Status, Values, Wants, World, [], answer_if, ap, arith, bits, body_after_read, body_in, body_of}
-use Rattle.zl_calls.proofs.Common.{body_value, chan_read_etc, count_by, cpu_answered, drop, effect, false, false≢true, first_handles, first_some, front_at}
-use Rattle.zl_calls.proofs.Common.{front_by, front_in, get, get_seen, gives_ok, gives_refused, granted, handle_operands, handles_to, has_room, if◌then◌else◌}
-use Rattle.zl_calls.proofs.Common.{insert_all, is_empty, is_some, length, listed, map, may_choose, message_read, nat_le, nat_tests, new_handles, none-some, not}
-use Rattle.zl_calls.proofs.Common.{object_at, object_entry, object_value, on_object, on_process, operands_fault, option_map, peer_here, plain_refusal}
-use Rattle.zl_calls.proofs.Common.{process_entry, process_value, process_with, process_with_all, queue_found, queued_to, refl, remove_all, replied, site}
-use Rattle.zl_calls.proofs.Common.{slice_get, storing, subst, sum_by, sum_by-cons, sum_fewer, sym, taken, taken_handles, takes, told_of, told_read, true}
-use Rattle.zl_calls.proofs.Common.{update, wants_memory, with_effect, with_stored, within, world_value, ℕ, ◌&&◌, ◌+◌, ◌==◌, ◌∙◌, ◌∷◌, ◌≡◌, ◌≤◌}
-use Rattle.zl_code.proofs.Common.{Object as ObjectValue, Process as ProcessValue}
-use Rattle.zl_rights.specs.declared.kind.Kind.TheVariants as kind
+-- The calls chan_read_etc and chan_read_slots, from their table and objects to a step.
+use Rattle.zl_calls.proofs.Common.{ChanReadDoes, Err, IsConsistent, IsTold, Library, List, None, Objects, Ok, Outcome, ReadFault, Received, Result, Site, Some}
+use Rattle.zl_calls.proofs.Common.{Status, World, [], chan_read_etc, chan_read_slots, effect, gives_ok, gives_refused, handle_operands, if◌then◌else◌, listed}
+use Rattle.zl_calls.proofs.Common.{may_choose, new_handles, operands_fault, refl, remove_all, subst, sym, taken_handles, told_of, told_read, told_slots}
+use Rattle.zl_calls.proofs.Common.{world_value, ℕ, ◌≡◌}
+use Rattle.zl_calls.specs.declared.process.Process.{Process}
+use Rattle.zl_calls.proofs.calls.Answered.{IsWrite, asking}
+use Rattle.zl_calls.proofs.calls.DoneCalls.{IsCalled, IsDoneBy, called_done}
+use Rattle.zl_calls.proofs.calls.Readers.{IsReader, tells_sizes, was_not_read, was_read}
 use Rattle.zl_rights.specs.declared.status.Status.TheVariants as status
 use Rattle.zl_code.specs.declared.history.Outcome.TheVariants as outcome
-use Rattle.zl_code.specs.Tests.{has_place_for, queue_at, queue_in, sizes_of}
-use Rattle.zl_channel.specs.Queue.{front_handles}
-use Rattle.zl_objects.specs.declared.object.Body.{Body}
-use Rattle.zl_objects.specs.declared.object.Body.TheVariants as body
-use Rattle.zl_objects.specs.declared.object.Object.{Object}
-use Rattle.zl_objects.specs.Objects.{queue_held, received, received_body, receiving}
-use Rattle.zl_calls.specs.declared.process.Process.{Process}
-use Rattle.zl_calls.specs.declared.calls.channel.reading.ReadFault.TheVariants as fault
-use Rattle.zl_calls.proofs.calls.Owned.{IsMaker, own_plain, own_refused}
-use Rattle.zl_calls.proofs.calls.Answered.{IsWrite, table_is, replied_with}
-use Rattle.zl_calls.proofs.objects.Counted.{queue_seen}
-use Rattle.zl_calls.proofs.objects.Counting.{counts_written, queues, naming, numbered, numbered_naming}
-use Rattle.zl_calls.proofs.calls.DoneCalls.{IsCalled, called_done, IsDoneBy}
-use Rattle.zl_calls.proofs.tables.EnteredTables.{all_chosen, all_given, counts_entered, each_entered, tables_entered}
-use Rattle.zl_calls.proofs.objects.Queued.{requeued, requeued_body, more_queued, requeued_kept, requeued_named, requeued_sound}
-use Rattle.zl_calls.proofs.calls.Refused.{answers, first_looked_up}
-use Rattle.zl_calls.proofs.objects.SameBodies.{still_named}
-use Rattle.zl_calls.proofs.lists.Updates.{update_itself, update_seen, update_twice}
-use Rattle.zl_calls.proofs.calls.WriteCalls.{peer_there}
-use Rattle.zl_calls.proofs.processes.Written.{refusal_keeps, entered, same_agrees}
-use Rattle.zl_calls.proofs.objects.Settled.{sound_of}
+use Rattle.zl_code.specs.Tests.{queue_at, sizes_of}
 
--- ---- the refusal
+-- ---- what the definitions say of both
 
--- the status of a fault, if there is one
-abbrev why : Result ℕ ReadFault → Option Status
-why (Ok end) = None
-why (Err (fault.TooSmall bytes handles)) = Some status.BufferTooSmall
-why (Err (fault.Refused s)) = Some s
+module _ (lib : Library) (w : World) (p c address room places : ℕ) where
+  etc_refuses : (a : Status) → gives_refused w p (chan_read_etc c address room places) a ≡ (if tells_sizes a then sizes_of (queue_at w p c) else [])
+  unfolding gives_refused
+  etc_refuses status.BufferTooSmall = refl
+  etc_refuses _ = refl
 
--- what is to be read is the same for the definitions
-queue_there : (os : Map Object) (k : ℕ) → queue_in (body_in (get (map object_entry os) k)) ≡ queue_found (get os k)
-queue_there os k = rw (get_seen os k) (by_object (get os k))
-  where
-    by_object : (o : Option Object) → queue_in (body_in (option_map object_value o)) ≡ queue_found o
-    by_object None = refl
-    by_object (Some o) = queue_seen o.body
+  etc_reads : (base : Site) → IsReader lib w p (asking (chan_read_etc c address room places) base) c address room places told_of (λ vs. None)
+  unfolding effect new_handles taken_handles handle_operands operands_fault remove_all gives_ok listed may_choose
+  etc_reads base = record {
+    operand = λ entries. refl;
+    tests = refl;
+    wants = refl;
+    none_taken = refl;
+    ends = refl;
+    maker = record { none = refl; chosen = refl; made = refl; own = refl };
+    chooses = λ vs. refl;
+    does = λ vs. refl;
+    tells = λ vs. refl;
+    refuses = etc_refuses;
+  }
 
-by_queue : (count room places k : ℕ) (there : Bool) (queue : List Message) → first_some (answer_if (is_empty queue && not there) status.PeerClosed
-    ∷ answer_if (is_empty queue) status.ShouldWait
-    ∷ answer_if (not (has_place_for room places queue)) status.BufferTooSmall
-    ∷ answer_if (not (nat_le (count + length (first_handles queue)) 1024)) status.NoResources
-    ∷ []) ≡ answers (why (front_in count there room places k queue))
-by_queue count room places k true [] = refl
-by_queue count room places k false [] = refl
-by_queue count room places k there (m ∷ ms) = by_tests (has_place_for room places (m ∷ ms)) (nat_le (count + length m.handles) 1024)
-  where
-    by_tests : (a b : Bool) → first_some (answer_if (not a) status.BufferTooSmall ∷ answer_if (not b) status.NoResources ∷ [])
-        ≡ answers (why (if not a then Err (fault.TooSmall (length m.bytes) (length m.handles))
-        else (if not b then Err (fault.Refused status.NoResources) else Ok k)))
-    by_tests false b = refl
-    by_tests true false = refl
-    by_tests true true = refl
+  module _ (array : ℕ) where
+    slots_refuses : (a : Status)
+        → gives_refused w p (chan_read_slots c address room array places) a ≡ (if tells_sizes a then sizes_of (queue_at w p c) else [])
+    unfolding gives_refused
+    slots_refuses status.BufferTooSmall = refl
+    slots_refuses _ = refl
 
--- ---- what holds of the message
-
--- the end is named by the caller's handle, and the table has room for the handles of its first message
-record IsFrontOf (entries : Map Entry) (objects : Map Object) (c end : ℕ) : Type 0 where
-  pub entry : Entry
-  pub there : get entries c ≡ Some entry
-  pub koid : entry.koid ≡ end
-  pub room : length entries + length (front_handles (queue_found (get objects end))) ≤ 1024
-
--- the sizes that are told are those of the first message at the end that the handle names
-record IsTooSmall (entries : Map Entry) (objects : Map Object) (c bytes handles : ℕ) : Type 0 where
-  pub entry : Entry
-  pub there : get entries c ≡ Some entry
-  pub sizes : sizes_of (queue_found (get objects entry.koid)) ≡ bytes ∷ handles ∷ []
-
--- with this status the sizes of a message are told
-abbrev tells_sizes : Status → Bool
-tells_sizes status.BufferTooSmall = true
-tells_sizes _ = false
-
--- what is known of the message by what was found
-abbrev IsKnown : Map Entry → Map Object → ℕ → Result ℕ ReadFault → Type 0
-IsKnown entries objects c (Ok end) = IsFrontOf entries objects c end
-IsKnown entries objects c (Err (fault.TooSmall bytes handles)) = IsTooSmall entries objects c bytes handles
-IsKnown entries objects c (Err (fault.Refused s)) = tells_sizes s ≡ false
-
-front_known : (entries : Map Entry) (objects : Map Object) (c room places : ℕ) → IsKnown entries objects c (front_at entries objects c room places)
-front_known entries objects c room places = by_entry (get entries c) refl
-  where
-    by_tests : (e : Entry) (m : Message) (ms : List Message) → get entries c ≡ Some e → queue_found (get objects e.koid) ≡ m ∷ ms
-        → (a b : Bool) → nat_le (length entries + length m.handles) 1024 ≡ b
-        → IsKnown entries objects c (if not a then Err (fault.TooSmall (length m.bytes) (length m.handles))
-        else (if not b then Err (fault.Refused status.NoResources) else Ok e.koid))
-    by_tests e m ms there at false b fits = record { entry = e; there = there; sizes = rw at refl }
-    by_tests e m ms there at true false fits = refl
-    by_tests e m ms there at true true fits = record { entry = e; there = there; koid = refl; room = rw at (grind (arith, nat_tests, fits)) }
-
-    by_messages : (e : Entry) → get entries c ≡ Some e → (peer : Bool) (queue : List Message) → queue_found (get objects e.koid) ≡ queue
-        → IsKnown entries objects c (front_in (length entries) peer room places e.koid queue)
-    by_messages e there true [] at = refl
-    by_messages e there false [] at = refl
-    by_messages e there peer (m ∷ ms) at = by_tests e m ms there at (has_place_for room places (m ∷ ms)) (nat_le (length entries + length m.handles) 1024) refl
-
-    by_rights : (e : Entry) → get entries c ≡ Some e → (a b : Bool)
-        → IsKnown entries objects c (front_by entries objects room places (if a then (if b then Ok e else Err status.AccessDenied) else Err status.WrongType))
-    by_rights e there true true = by_messages e there (is_some (peer_here objects e.koid)) (queue_found (get objects e.koid)) refl
-    by_rights e there true false = refl
-    by_rights e there false b = refl
-
-    by_entry : (o : Option Entry) → get entries c ≡ o → IsKnown entries objects c (front_by entries objects room places (granted o (kind.Channel ∷ []) READ))
-    by_entry None there = refl
-    by_entry (Some e) there = by_rights e there (takes (kind.Channel ∷ []) e.kind) (within READ (bits e.rights))
-
--- the message is the first at the object k
-record IsFirstAt (objects : Map Object) (k : ℕ) (m : Message) : Type 0 where
-  pub object : Object
-  pub at : get objects k ≡ Some object
-  pub queue : queue_held object.body ≡ m ∷ drop 1 (queue_held object.body)
-
-first_at : (objects : Map Object) (k : ℕ) (m : Message) → slice_get (queue_found (get objects k)) 0 ≡ Some m → IsFirstAt objects k m
-first_at objects k m is = by_object (get objects k) refl is
-  where
-    by_messages : (queue : List Message) → slice_get queue 0 ≡ Some m → queue ≡ m ∷ drop 1 queue
-    by_messages [] read = absurd (none-some m read)
-    by_messages (x ∷ xs) read = let same : x ≡ m = cc in ap (λ (y : Message). y ∷ xs) same
-
-    by_object : (o : Option Object) → get objects k ≡ o → slice_get (queue_found o) 0 ≡ Some m → IsFirstAt objects k m
-    by_object None at read = absurd (none-some m read)
-    by_object (Some o) at read = record { object = o; at = at; queue = by_messages (queue_held o.body) read }
-
--- ---- a message less in a queue
-
-read_seen : (os : Map Object) (k : ℕ) → map object_entry (update os k received) ≡ update (map object_entry os) k message_read
-read_seen os k = update_seen object_value os k received message_read (λ o. ap (λ b. record (object_value o) { body = b }) (by_body o.body))
-  where
-    by_body : (b : Body) → body_value (received_body b) ≡ body_after_read (body_value b)
-    by_body (body.ChannelEnd peer queue) = refl
-    by_body _ = refl
-
-same_receiving : (r : Objects) (k : ℕ) → receiving r k ≡ record r { objects = update r.objects k (requeued (drop 1)) }
-same_receiving r k = ap (λ (f : Object → Object). record r { objects = update r.objects k f }) (λ i o. same o i)
-  where
-    by_body : (b : Body) → received_body b ≡ requeued_body (drop 1) b
-    by_body (body.ChannelEnd peer queue) = refl
-    by_body _ = refl
-
-    same : (o : Object) → received o ≡ requeued (drop 1) o
-    same o = ap (λ (b : Body). record o { body = b }) (by_body o.body)
-
-module _ (os : Map Object) (k : ℕ) (m : Message) (first : IsFirstAt os k m) where
-  queues_received : (j : ℕ) → queues os j ≡ queues (update os k received) j + count_by (λ (e : Entry). e.koid == j) m.handles
-  queues_received j = rw (read_seen os k)
-      (sum_fewer (λ x. queued_to j x.1.body) (map object_entry os) k (count_by (λ (e : Entry). e.koid == j) m.handles) (object_value first.object) message_read
-      (get_seen os k ∙ rw first.at refl) (by_body first.object.body first.queue))
-    where
-      by_body : (b : Body) → queue_held b ≡ m ∷ drop 1 (queue_held b)
-          → queued_to j (body_value b) ≡ queued_to j (body_after_read (body_value b)) + count_by (λ (e : Entry). e.koid == j) m.handles
-      by_body (body.ChannelEnd peer queue) h =
-          let all = ap (λ (q : List Message). sum_by (λ (x : Message). count_by (λ (e : Entry). e.koid == j) x.handles) q) h in
-          omega (arith, all, sum_by-cons (λ (x : Message). count_by (λ (e : Entry). e.koid == j) x.handles) m (drop 1 queue))
-      by_body _ h = absurd cc
-
-  message_named : (named : (e : Entry) → Type 0) → All (λ (x : Message). All named x.handles) (queue_held first.object.body) → All named m.handles
-  message_named named all =
-      All-head (λ (x : Message). All named x.handles) m (drop 1 (queue_held first.object.body))
-      (subst (λ (q : List Message). All (λ (x : Message). All named x.handles) q) first.queue all)
-
--- ---- a world with handles and bytes more
-
--- the process with these bytes in its memory
-abbrev stored_in : ℕ × List ℕ → ProcessValue → ProcessValue
-stored_in s q = record q { cpu = with_stored s q.cpu }
-
-storing_is : (u : World) (p a : ℕ) (bs : List ℕ) → storing u p (a, bs) ≡ on_process u p (stored_in (a, bs))
-unfolding on_process
-storing_is u p a [] = ap (λ (ps : Map ProcessValue). record u { processes = ps }) (sym (update_itself u.processes p))
-storing_is u p a (b ∷ bs) = refl
-
-inserted_is : (u : World) (p : ℕ) (es : List Entry) (vs : List ℕ) → insert_all u p es vs ≡ on_process u p (process_with_all es vs)
-unfolding insert_all on_process
-inserted_is u p [] vs = ap (λ (ps : Map ProcessValue). record u { processes = ps }) (sym (update_itself u.processes p))
-inserted_is u p (e ∷ es) [] = ap (λ (ps : Map ProcessValue). record u { processes = ps }) (sym (update_itself u.processes p))
-inserted_is u p (e ∷ es) (v ∷ vs) =
-    inserted_is (on_process u p (process_with v e)) p es vs
-    ∙ ap (λ (ps : Map ProcessValue). record u { processes = ps }) (update_twice u.processes p (process_with v e) (process_with_all es vs))
+    slots_reads : (base : Site) → IsReader lib w p (asking (chan_read_slots c address room array places) base)
+        c address room places (λ es vs. []) (λ vs. Some (array, vs))
+    unfolding effect new_handles taken_handles handle_operands operands_fault remove_all gives_ok listed may_choose
+    slots_reads base = record {
+      operand = λ entries. refl;
+      tests = refl;
+      wants = refl;
+      none_taken = refl;
+      ends = refl;
+      maker = record { none = refl; chosen = refl; made = refl; own = refl };
+      chooses = λ vs. refl;
+      does = λ vs. refl;
+      tells = λ vs. refl;
+      refuses = slots_refuses;
+    }
 
 -- ---- the step
 
 -- a process of the world, before and after its call
 module _ {before after : List Process} {r : Objects} {p p2 : Process} (lib : Library) (r2 : Objects) (consistent : IsConsistent before r)
     (write : IsWrite before after p p2)
-    (c address room places : ℕ) (consumed destinations : List ℕ) where
+    (c address room places : ℕ) where
   abbrev w : World
   w = world_value before r
 
-  abbrev read_site : Site
-  read_site = site (chan_read_etc c address room places) consumed destinations
+  module _ (base : Site) where
+    abbrev etc_site : Site
+    etc_site = asking (chan_read_etc c address room places) base
 
-  abbrev front_now : Result ℕ ReadFault
-  front_now = front_at p.table.entries r.objects c room places
+    etc_called : (answer : Result Received ReadFault) → ChanReadDoes c room places p.table r answer p2.table r2
+        → IsTold etc_site (told_read address answer) p p2
+        → IsCalled lib before after r r2 p.pid etc_site (outcome.Answered (told_read address answer).status)
+    etc_called (Ok message) does told =
+        was_read lib r2 consistent write etc_site c address room places told_of (λ vs. None)
+        (etc_reads lib w p.pid c address room places base) message does.ok told
+    etc_called (Err f) does told =
+        was_not_read lib r2 consistent write etc_site c address room places told_of (λ vs. None)
+        (etc_reads lib w p.pid c address room places base) does.same_table does.same_objects f does.err told
 
-  known : (found : Result ℕ ReadFault) → front_now ≡ found → IsKnown p.table.entries r.objects c found
-  known found is = subst (IsKnown p.table.entries r.objects c) is (front_known p.table.entries r.objects c room places)
+    pub read_done : IsDoneBy lib before after r r2 p p2 etc_site (told_read address) (ChanReadDoes c room places)
+    read_done ready call next o acts = called_done lib r2 consistent write ready call etc_site next o
+        (subst (λ (x : Outcome). IsCalled lib before after r r2 p.pid etc_site x) (sym acts.ends) (etc_called acts.answer acts.acts acts.replied))
 
-  refused : plain_refusal lib w p.pid (chan_read_etc c address room places) ≡ answers (why front_now)
-  unfolding handle_operands operands_fault listed has_room
-  refused =
-      first_looked_up lib w p.pid p.table.entries (table_is write r) (chan_read_etc c address room places) (why front_now)
-      c (kind.Channel ∷ []) READ None refl (λ s is. rw is refl)
-      (λ e is at. rw (is, table_is write r, at, queue_there r.objects e.koid, peer_there r consistent.no_zero e.koid)
-      (by_queue (length p.table.entries) room places e.koid (is_some (peer_here r.objects e.koid)) (queue_found (get r.objects e.koid))))
+  module _ (array : ℕ) (base : Site) where
+    abbrev slots_site : Site
+    slots_site = asking (chan_read_slots c address room array places) base
 
-  -- ---- the message was read
+    slots_called : (answer : Result Received ReadFault) → ChanReadDoes c room places p.table r answer p2.table r2
+        → IsTold slots_site (told_slots address array answer) p p2
+        → IsCalled lib before after r r2 p.pid slots_site (outcome.Answered (told_slots address array answer).status)
+    slots_called (Ok message) does told =
+        was_read lib r2 consistent write slots_site c address room places (λ es vs. []) (λ vs. Some (array, vs))
+        (slots_reads lib w p.pid c address room places array base) message does.ok told
+    slots_called (Err f) does told =
+        was_not_read lib r2 consistent write slots_site c address room places (λ es vs. []) (λ vs. Some (array, vs))
+        (slots_reads lib w p.pid c address room places array base) does.same_table does.same_objects f does.err told
 
-  module _ (message : Received) (reads : ReadsMessage p.table r c room places message p2.table r2)
-      (told : IsTold read_site (told_read address (Ok message)) p p2) where
-    abbrev k : ℕ
-    k = reads.end
-
-    abbrev m : Message
-    m = message.message
-
-    abbrev vs : List ℕ
-    vs = message.values.items
-
-    front : IsFrontOf p.table.entries r.objects c k
-    front = known (Ok k) reads.is_end
-
-    first : IsFirstAt r.objects k m
-    first = first_at r.objects k m reads.first
-
-    koid_same : object_at w p.pid c ≡ k
-    koid_same = rw (table_is write r, front.there) front.koid
-
-    queue_same : queue_at w p.pid c ≡ m ∷ drop 1 (queue_held first.object.body)
-    queue_same = ap (λ (j : ℕ). queue_in (body_of w j)) koid_same ∙ (queue_there r.objects k ∙ (ap queue_found first.at ∙ first.queue))
-
-    state_same : p2.state ≡ p.state
-    state_same = ap (λ (q : Process). q.state) told
-
-    -- ---- the relation of calls
-
-    abbrev stored : ℕ × List ℕ
-    stored = (address, m.bytes)
-
-    abbrev with_read : World
-    with_read = on_object w k message_read
-
-    abbrev middle : World
-    middle = storing (insert_all with_read p.pid m.handles vs) p.pid stored
-
-    abbrev change : ProcessValue → ProcessValue
-    change q = stored_in stored (process_with_all m.handles vs q)
-
-    middle_is : middle ≡ on_process (on_process with_read p.pid (process_with_all m.handles vs)) p.pid (stored_in stored)
-    middle_is =
-        storing_is (insert_all with_read p.pid m.handles vs) p.pid address m.bytes
-        ∙ ap (λ (u : World). on_process u p.pid (stored_in stored)) (inserted_is with_read p.pid m.handles vs)
-
-    so_far : middle.processes ≡ update (map process_entry before) p.pid change
-    unfolding on_process on_object
-    so_far = ap (λ (u : World). u.processes) middle_is ∙ update_twice (map process_entry before) p.pid (process_with_all m.handles vs) (stored_in stored)
-
-    rest : (record middle { processes = map process_entry after }) ≡ world_value after r2
-    unfolding on_process on_object
-    rest = ap (λ (u : World). record u { processes = map process_entry after }) middle_is
-        ∙ (ap (λ (os : Map ObjectValue). record w { processes = map process_entry after; objects = os }) (sym (read_seen r.objects k))
-        ∙ ap (world_value after) (sym reads.objects))
-
-    abbrev values : List ℕ
-    values = length m.bytes ∷ length m.handles ∷ told_of m.handles vs
-
-    is : process_value p2 ≡ record (change (process_value p)) { cpu = cpu_answered read_site status.Ok values (change (process_value p)).cpu }
-    is =
-        ap process_value told ∙ ap (λ (q : ProcessValue). record q { cpu = cpu_answered read_site status.Ok values (with_stored stored q.cpu) })
-        (sym (all_given p.table p2.table m.handles vs (process_value p) reads.inserts))
-
-    read_ends : world_value after r2 ≡ replied (with_effect lib w (taken w p.pid read_site) p.pid (chan_read_etc c address room places) vs) p.pid read_site
-        status.Ok (gives_ok w p.pid (chan_read_etc c address room places) vs)
-    unfolding effect new_handles taken_handles handle_operands remove_all gives_ok
-    read_ends = rw (queue_same, koid_same) (replied_with write r2 read_site status.Ok values change middle so_far rest is)
-
-    read_chosen : IsTrue (may_choose w (taken w p.pid read_site) p.pid (chan_read_etc c address room places) vs)
-    unfolding may_choose new_handles remove_all taken_handles handle_operands
-    read_chosen = rw (queue_same, write.there) (all_chosen p.table p2.table m.handles vs (process_value p) reads.inserts)
-
-    read_maker : IsMaker w p.pid (chan_read_etc c address room places) (length m.handles)
-    unfolding new_handles taken_handles handle_operands
-    read_maker = record { none = refl; chosen = rw queue_same refl; made = rw queue_same refl; own = refl }
-
-    -- ---- the invariant
-
-    abbrev changed : Objects
-    changed = record r { objects = update r.objects k (requeued (drop 1)) }
-
-    named_now : (e : Entry) → IsNamed r.objects e → IsNamed changed.objects e
-    named_now = requeued_named (drop 1) r.objects k
-
-    later : (queue : List Message) → AreNamed r.objects queue → AreNamed r.objects (drop 1 queue)
-    later [] all = all
-    later (x ∷ xs) all = All-tail (λ (y : Message). All (IsNamed r.objects) y.handles) x xs all
-
-    queue_named : (b : Body) → AreNamed r.objects (queue_held b) → AreNamed changed.objects (queue_held (requeued_body (drop 1) b))
-    queue_named (body.ChannelEnd peer queue) old = still_named r.objects changed.objects named_now (drop 1 queue) (later queue old)
-    queue_named _ old = All-nil (λ (x : Message). All (IsNamed changed.objects) x.handles)
-
-    -- the handles of the message, which are in no table yet
-    abbrev moved : Map Entry
-    moved = numbered 0 m.handles
-
-    read_counts : (j : ℕ) → handles_to (world_value before changed) j + count_by (λ h. h.1.koid == j) moved
-        ≡ handles_to w j + count_by (λ (h : ℕ × Entry). h.1.koid == j) []
-    read_counts j =
-        let less : handles_to w j ≡ handles_to (world_value before (receiving r k)) j + naming j m.handles =
-        more_queued before (receiving r k) r j (naming j m.handles) (queues_received r.objects k m first j) in
-        omega (arith, less, ap (λ (x : Objects). handles_to (world_value before x) j) (same_receiving r k), numbered_naming j 0 m.handles)
-
-    sound_changed : AreSound before moved changed
-    sound_changed = requeued_sound (drop 1) before r k [] moved (sound_of before r consistent)
-        (λ o at. queue_named o.body (consistent.queued k o at)) read_counts
-
-    entered_named : (v : ℕ) (e : Entry) → get p2.table.entries v ≡ Some e → IsNamed r.objects e
-    entered_named =
-        each_entered (IsNamed r.objects) p.table p2.table m.handles vs reads.inserts (λ v e at. consistent.named p.pid (process_value p) v e write.there at)
-        (message_named r.objects k m first (IsNamed r.objects) (consistent.queued k first.object first.at))
-
-    fits : length p.table.entries + length m.handles ≤ 1024
-    fits = rw (first.at, first.queue) at front.room
-
-    read_called : IsCalled lib before after r r2 p.pid read_site (outcome.Answered status.Ok)
-    read_called = record {
-      calls = (Values vs, rw (refused, reads.is_end) (read_chosen, refl, read_ends));
-      own = λ living. own_plain write r living read_site.request read_maker m.handles vs refl reads.inserts;
-      keeps = rw (reads.objects, same_receiving r k) (entered write moved changed sound_changed (requeued_kept (drop 1) before r k consistent.kept)
-          (same_agrees write state_same changed)
-          (tables_entered p.table p2.table m.handles vs (consistent.tables p.pid (process_value p) write.there) fits reads.inserts)
-          (λ v e at. named_now e (entered_named v e at))
-          (λ j. omega (
-            arith,
-            counts_written before after p p2 changed changed j (naming j m.handles) write refl (counts_entered j p.table p2.table m.handles vs reads.inserts),
-            numbered_naming j 0 m.handles,
-          )));
-    }
-
-  -- ---- no message was read
-
-  module _ (table : p2.table ≡ p.table) (objects : r2 ≡ r) where
-    told_world : (answer : Status) (values : List ℕ) → p2 ≡ record p { cpu = cpu_answered read_site answer values p.cpu; table = p2.table }
-        → world_value after r2 ≡ replied w p.pid read_site answer values
-    unfolding replied on_process
-    told_world answer values told =
-        rw objects
-        (ap (λ (ps : Map ProcessValue). record w { processes = ps }) (write.writes (λ q. record q { cpu = cpu_answered read_site answer values q.cpu }) seen))
-      where
-        seen : process_value p2 ≡ record (process_value p) { cpu = cpu_answered read_site answer values p.cpu }
-        seen = ap process_value told ∙ rw table refl
-
-    kept : p2.state ≡ p.state → IsConsistent after r2
-    kept same = subst (IsConsistent after) (sym objects) (refusal_keeps write r consistent table same)
-
-    abbrev Called : ReadFault → Type 0
-    Called f =
-        IsTold read_site (told_read address (Err f)) p p2 → IsCalled lib before after r r2 p.pid read_site (outcome.Answered (told_read address (Err f)).status)
-
-    want_tells : (s : Status) → IsTrue (wants_memory s) → gives_refused w p.pid (chan_read_etc c address room places) s ≡ []
-    unfolding gives_refused
-    want_tells status.BufferTooSmall want = absurd (false≢true want)
-    want_tells _ want = refl
-
-    wanting : (end : ℕ) → front_now ≡ Ok end → (s : Status) → IsFaultBy r.objects (Ok end) (fault.Refused s) → Called (fault.Refused s)
-    unfolding taken_handles handle_operands remove_all
-    wanting end is s want told = record {
-      calls = (Wants s, rw (refused, is) (want, refl, told_world s [] told ∙ ap (replied w p.pid read_site s) (sym (want_tells s want))));
-      own = λ living. tt;
-      keeps = kept (ap (λ (q : Process). q.state) told);
-    }
-
-    sizes_same : (bytes handles : ℕ) → front_now ≡ Err (fault.TooSmall bytes handles) → sizes_of (queue_at w p.pid c) ≡ bytes ∷ handles ∷ []
-    sizes_same bytes handles is =
-        let small : IsTooSmall p.table.entries r.objects c bytes handles = known (Err (fault.TooSmall bytes handles)) is in
-        let koid : object_at w p.pid c ≡ small.entry.koid = rw (table_is write r, small.there) refl in
-        ap (λ (j : ℕ). sizes_of (queue_in (body_of w j))) koid ∙ (ap sizes_of (queue_there r.objects small.entry.koid) ∙ small.sizes)
-
-    nothing_told : (s : Status) → front_now ≡ Err (fault.Refused s) → gives_refused w p.pid (chan_read_etc c address room places) s ≡ []
-    unfolding gives_refused
-    nothing_told s is = by_status s (known (Err (fault.Refused s)) is)
-      where
-        by_status : (x : Status) → tells_sizes x ≡ false → gives_refused w p.pid (chan_read_etc c address room places) x ≡ []
-        by_status status.BufferTooSmall untold = absurd (false≢true (sym untold))
-        by_status _ untold = refl
-
-    by_known : (f : ReadFault) → front_now ≡ Err f → Called f
-    unfolding taken_handles handle_operands remove_all gives_refused
-    by_known (fault.TooSmall bytes handles) is told = record {
-      calls = (
-        Refused,
-        rw (refused, is) (
-          refl,
-          told_world status.BufferTooSmall (bytes ∷ handles ∷ []) told
-              ∙ ap (replied w p.pid read_site status.BufferTooSmall) (sym (sizes_same bytes handles is)),
-        ),
-      );
-      own = λ living. own_refused write r living read_site.request table;
-      keeps = kept (ap (λ (q : Process). q.state) told);
-    }
-    by_known (fault.Refused s) is told = record {
-      calls = (Refused, rw (refused, is) (refl, told_world s [] told ∙ ap (replied w p.pid read_site s) (sym (nothing_told s is))));
-      own = λ living. own_refused write r living read_site.request table;
-      keeps = kept (ap (λ (q : Process). q.state) told);
-    }
-
-    by_front : (found : Result ℕ ReadFault) → front_now ≡ found → (f : ReadFault) → IsFaultBy r.objects found f → Called f
-    by_front (Ok found) same (fault.Refused s) want = wanting found same s want
-    by_front (Ok found) same (fault.TooSmall bytes handles) never = absurd never
-    by_front (Err g) is f by = subst Called (sym by) (by_known g is)
-
-  by_answer : (answer : Result Received ReadFault) → ChanReadDoes c room places p.table r answer p2.table r2 → IsTold read_site (told_read address answer) p p2
-      → IsCalled lib before after r r2 p.pid read_site (outcome.Answered (told_read address answer).status)
-  by_answer (Ok message) does told = read_called message does.ok told
-  by_answer (Err f) does told = by_front does.same_table does.same_objects front_now refl f does.err told
-
-  pub read_done : IsDoneBy lib before after r r2 p p2 read_site (told_read address) (ChanReadDoes c room places)
-  read_done ready call next o acts = called_done lib r2 consistent write ready call read_site next o
-      (subst (λ (x : Outcome). IsCalled lib before after r r2 p.pid read_site x) (sym acts.ends) (by_answer acts.answer acts.acts acts.replied))
+    pub read_slots_done : IsDoneBy lib before after r r2 p p2 slots_site (told_slots address array) (ChanReadDoes c room places)
+    read_slots_done ready call next o acts = called_done lib r2 consistent write ready call slots_site next o
+        (subst (λ (x : Outcome). IsCalled lib before after r r2 p.pid slots_site x) (sym acts.ends) (slots_called acts.answer acts.acts acts.replied))

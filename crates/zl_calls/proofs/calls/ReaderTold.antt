@@ -1,13 +1,19 @@
 -- What a reader is told, in its registers and its memory.
-use Rattle.zl_calls.proofs.Common.{Acted, Bool, CallInstr, ChanReadDoes, Cpu, Entry, Handles, IsSome, List, None, Objects, Ok, Option, Outcome, Received, Site}
-use Rattle.zl_calls.proofs.Common.{Some, [], answered, ap, arith, chan_read_etc, drop, false, false≢true, length, number_at, read_into, refl, reg, register_set}
-use Rattle.zl_calls.proofs.Common.{site, site_of, slice_get, slice_index, slice_set, status_magnitude, subst, suc, sym, take, take-append-drop, then_some}
-use Rattle.zl_calls.proofs.Common.{told_of, triple_of, triples_from, true, with_stored, written, zero, ℕ, ◌*◌, ◌++◌, ◌+◌, ◌-◌, ◌<◌, ◌∙◌, ◌∷◌, ◌≡◌}
+use Rattle.zl_calls.proofs.Common.{Acted, Bool, CallInstr, ChanReadDoes, Cpu, Entry, Handles, IsSome, IsTrue, List, None, Objects, Ok, Option, Outcome}
+use Rattle.zl_calls.proofs.Common.{Received, Site, Some, [], answered, ap, arith, chan_read_etc, chan_read_slots, drop, false, false≢true, if◌then◌else◌}
+use Rattle.zl_calls.proofs.Common.{length, number_at, read_into, refl, reg, register_set, site, site_of, sizes_into, slice_get, slice_index, slice_set}
+use Rattle.zl_calls.proofs.Common.{slots_filled, status_magnitude, subst, suc, sym, take, take-append-drop, then_some, told_of, triple_of, triples_from, true}
+use Rattle.zl_calls.proofs.Common.{with_kept, with_stored, written, zero, ℕ, ◌*◌, ◌++◌, ◌+◌, ◌-◌, ◌<◌, ◌==◌, ◌∙◌, ◌∷◌, ◌≡◌, ◌≤◌}
+use Rattle.std.proofs.Math.Nat.{min-le_left}
+use Rattle.zl_rights.proofs.Common.{le-leb}
+use Rattle.zl_code.specs.Asked.{array_in, has_places, room_in, zeros_in_front}
 use Rattle.zl_code.specs.Local.{overwritten}
 use Rattle.zl_rights.specs.declared.status.Status.TheVariants as status
 use Rattle.zl_code.specs.declared.history.Outcome.TheVariants as outcome
 use Rattle.zl_code.specs.declared.history.CallName.TheVariants as name
+use Rattle.std.specs.Prelude.{min}
 use Rattle.zl_calls.specs.declared.process.Process.{Process}
+use Rattle.zl_calls.proofs.calls.Readers.{handles_fit}
 
 -- ---- triples
 
@@ -80,6 +86,16 @@ pub at_read : (i : CallInstr) (c : Cpu) → i.name ≡ name.ChanReadEtc → IsSo
 unfolding site_of
 at_read i c is there = rw is (then_there _ _ (rw is at there))
 
+-- the site of a read into a slot array
+abbrev pub slots_site : CallInstr → Cpu → Site
+slots_site i c =
+    site (chan_read_slots (reg c (slice_index i.registers 1)) (reg c (slice_index i.registers 2)) (reg c (slice_index i.registers 3)) (number_at i.last 0 4)
+    (room_in (array_in i c))) [] (sizes_into i)
+
+pub at_read_slots : (i : CallInstr) (c : Cpu) → i.name ≡ name.ChanReadSlots → IsSome (site_of i c) → site_of i c ≡ Some (slots_site i c)
+unfolding site_of
+at_read_slots i c is there = rw is (then_there _ _ (rw is at there))
+
 -- the call was done for the process p, from the channel to the address, and told in these registers
 module _ (channel address room places : ℕ) (to : List ℕ) (p p2 : Process) (r r2 : Objects) where
   abbrev answered_so : Cpu → (size : ℕ) (entries : List Entry) (values : List ℕ) → Cpu
@@ -102,3 +118,53 @@ module _ (channel address room places : ℕ) (to : List ℕ) (p p2 : Process) (r
       memory : stored ≡ with_stored (address, seen.message.bytes) p.cpu
       memory =
           stores ∙ (ap (λ bytes. record p.cpu { memory = overwritten p.cpu.memory address bytes }) these ∙ sym (stored_is address seen.message.bytes p.cpu))
+
+  -- the same where values are kept in a slot array
+  pub slots_act : (array : ℕ) (t2 : Handles) (seen received : Received) (o : Outcome) → seen ≡ received
+      → ChanReadDoes channel room places p.table r (Ok received) t2 r2 → o ≡ outcome.Answered status.Ok
+      → (stored filled : Cpu) (size : ℕ) (bs : List ℕ) (hs : List Entry) (vs : List ℕ)
+      → stored ≡ record p.cpu { memory = overwritten p.cpu.memory address bs } → bs ≡ seen.message.bytes
+      → filled ≡ record stored { slots = slots_filled stored.slots (Some (array, vs)) } → vs ≡ seen.values.items
+      → size ≡ length seen.message.bytes → hs ≡ seen.message.handles
+      → p2 ≡ record p { cpu = answered filled to (status_magnitude status.Ok ∷ size ∷ length hs ∷ []); table = t2 }
+      → Acted (Some (site (chan_read_slots channel address room array places) [] to)) p r o p2 r2
+  slots_act array t2 seen received o same does ends stored filled size bs hs vs stores these fills valued sized those is = record {
+    answer = Ok seen;
+    acts = subst (λ (t : Handles). ChanReadDoes channel room places p.table r (Ok seen) t r2) (sym (ap (λ (q : Process). q.table) is))
+        (subst (λ (x : Received). ChanReadDoes channel room places p.table r (Ok x) t2 r2) (sym same) does);
+    ends = ends;
+    replied = is ∙ λ i. record p {
+      cpu = answered (slots i) to (status_magnitude status.Ok ∷ sized i ∷ length (those i) ∷ []);
+      table = sym (ap (λ (q : Process). q.table) is) i;
+    };
+  }
+    where
+      memory : stored ≡ with_stored (address, seen.message.bytes) p.cpu
+      memory =
+          stores ∙ (ap (λ bytes. record p.cpu { memory = overwritten p.cpu.memory address bytes }) these ∙ sym (stored_is address seen.message.bytes p.cpu))
+
+      slots : filled ≡ with_kept (Some (array, seen.values.items)) (with_stored (address, seen.message.bytes) p.cpu)
+      slots = fills ∙ λ i. record (memory i) { slots = slots_filled (memory i).slots (Some (array, valued i)) }
+
+-- ---- room in slots
+
+few_zeros : (places : List ℕ) → zeros_in_front places ≤ length places
+few_zeros [] = omega arith
+few_zeros (v ∷ vs) = by (v == 0) (few_zeros vs)
+  where
+    by : (b : Bool) → zeros_in_front vs ≤ length vs → (if b then suc (zeros_in_front vs) else 0) ≤ length (v ∷ vs)
+    by true rest = omega (arith, rest)
+    by false rest = omega arith
+
+-- the array is there and has these places; for so many handles there is room
+module _ (x : Option (List ℕ)) (held : List ℕ) (places : ℕ) (is : x ≡ Some held) (counted : places ≡ min (zeros_in_front held) 64) where
+  pub room_is : room_in x ≡ places
+  room_is = ap room_in is ∙ sym counted
+
+  -- the values of a message that was read have a place each
+  pub values_fit : (t t2 : Handles) (r r2 : Objects) (channel room : ℕ) (seen received : Received) → seen ≡ received
+      → ChanReadDoes channel room places t r (Ok received) t2 r2 → (vs : List ℕ) → vs ≡ seen.values.items → IsTrue (has_places (length vs) x)
+  values_fit t t2 r r2 channel room seen received same does vs valued =
+      let few : length received.values.items ≤ places = handles_fit t t2 r r2 channel room places received does.ok in
+      let all : length vs ≡ length received.values.items = ap (λ (xs : List ℕ). length xs) (valued ∙ ap (λ (y : Received). y.values.items) same) in
+      rw is (le-leb (length vs) (length held) (omega (arith, few, all, counted, few_zeros held, min-le_left (zeros_in_front held) 64)))

@@ -3,7 +3,7 @@ use Rattle.zl_calls.proofs.Common.{Bool, Entry, Err, IsConsistent, IsTold, Libra
 use Rattle.zl_calls.proofs.Common.{SignalOf, Signals, Site, Some, Status, Values, WAIT, World, [], active_at, answer_if, any, ap, awaited_by, bits, effect}
 use Rattle.zl_calls.proofs.Common.{false, false≢true, first_some, get, gives_ok, gives_refused, granted, handle_operands, if◌then◌else◌, insert_all}
 use Rattle.zl_calls.proofs.Common.{is_active_at, is_mask, koid_in, listed, looked_up, may_choose, meets, new_handles, not, object_at, operands_fault}
-use Rattle.zl_calls.proofs.Common.{plain_refusal, refl, remove_all, replied, result_err, signals_at, site, subst, sym, taken_handles, told_by, true, wait_one}
+use Rattle.zl_calls.proofs.Common.{plain_refusal, refl, remove_all, replied, result_err, signals_at, subst, sym, taken_handles, told_by, true, wait_one}
 use Rattle.zl_calls.proofs.Common.{wait_poll, wants_nothing, within, world_value, ℕ, ◌∙◌, ◌∷◌, ◌≡◌}
 use Rattle.zl_rights.specs.declared.status.Status.TheVariants as status
 use Rattle.zl_code.specs.declared.history.Outcome.TheVariants as outcome
@@ -16,7 +16,7 @@ use Rattle.zl_calls.specs.calls.Wait.{watched_values}
 use Rattle.zl_calls.specs.declared.calls.wait.Watched.{Watched}
 use Rattle.zl_calls.proofs.objects.Active.{signals_active}
 use Rattle.zl_calls.proofs.calls.Owned.{own_plain, own_refused}
-use Rattle.zl_calls.proofs.calls.Answered.{IsWrite, same_world, table_is}
+use Rattle.zl_calls.proofs.calls.Answered.{IsWrite, asking, same_world, table_is}
 use Rattle.zl_calls.proofs.calls.DoneCalls.{IsDoneBy, IsCalled, answered_done, called_done}
 use Rattle.zl_calls.proofs.calls.Refused.{answers, first_looked_up, is_found}
 use Rattle.zl_calls.proofs.processes.Written.{refusal_keeps}
@@ -97,14 +97,14 @@ polled_known entries objects h mask = by_entry (get entries h)
 -- a process of the world, before and after its call, which changes nothing but registers, or blocks
 module _ {before after : List Process} {r : Objects} {p p2 : Process} (lib : Library) (r2 : Objects) (consistent : IsConsistent before r)
     (write : IsWrite before after p p2)
-    (h mask : ℕ) (consumed destinations : List ℕ) where
+    (h mask : ℕ) (base : Site) where
   abbrev w : World
   w = world_value before r
 
   -- ---- wait_one
 
   abbrev one_site : Site
-  one_site = site (wait_one h mask) consumed destinations
+  one_site = asking (wait_one h mask) base
 
   refused_one : plain_refusal lib w p.pid (wait_one h mask) ≡ answers (result_err (watched_at p.table.entries r.objects h mask))
   unfolding handle_operands operands_fault listed
@@ -164,7 +164,7 @@ module _ {before after : List Process} {r : Objects} {p p2 : Process} (lib : Lib
   -- ---- wait_poll
 
   abbrev poll_site : Site
-  poll_site = site (wait_poll h mask) consumed destinations
+  poll_site = asking (wait_poll h mask) base
 
   abbrev polled : Result Signals PollFault
   polled = polled_at p.table.entries r.objects h mask

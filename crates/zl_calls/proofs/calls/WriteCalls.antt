@@ -1,16 +1,16 @@
--- The call chan_write, from its table and objects to a step.
+-- The calls chan_write and chan_write_slots, from their table and objects to a step.
 use Rattle.zl_rights.specs.Values.{given_back}
 use Rattle.zl_calls.proofs.Common.{All, All-append, All-cons, All-nil, AreNamed, AreSound, Bool, ChanWriteDoes, Entry, Handles, IsConsistent, IsNamed, IsTrue}
 use Rattle.zl_calls.proofs.Common.{Library, List, Map, Message, None, Objects, Ok, Operand, Option, Replies, Site, Some, Status, TRANSFER, Values, WRITE, World}
-use Rattle.zl_calls.proofs.Common.{WritesMessage, [], answer_if, any, ap, arith, body_in, body_value, body_with_message, cases_Bool, chan_write, cond, consumes}
-use Rattle.zl_calls.proofs.Common.{contains, count_by, effect, eq-eqb, false, false≢true, fault_of, filter, first_some, flat_map, get, get-update, get-without}
-use Rattle.zl_calls.proofs.Common.{get_seen, gives_ok, gives_refused, handle_operands, handles_to, has_key, has_seen, if◌then◌else◌, inl, inr, insert_all}
-use Rattle.zl_calls.proofs.Common.{is_some, kind_of, koids_in, length, list_any-append, list_refusal, listed, looked_up, map, may_choose, message_sent}
-use Rattle.zl_calls.proofs.Common.{new_handles, no_value, none-some, not, object_entry, object_value, on_object, on_process, operand_by, operands_fault}
-use Rattle.zl_calls.proofs.Common.{option_map, option_or, option_to_list, or_parts, peer_here, plain_refusal, process_entry, process_value, queued_to, refl}
-use Rattle.zl_calls.proofs.Common.{remove_all, replied, result_err, same_Some, site, sum_by-append, sum_by-cons, sym, taken, taken_from, taken_handles, takes}
-use Rattle.zl_calls.proofs.Common.{then_some, told_by, true, update, wants_memory, with_effect, without, without_handle, world_value, write_refusal, ℕ, ◌++◌}
-use Rattle.zl_calls.proofs.Common.{◌+◌, ◌<◌, ◌==◌, ◌||◌, ◌∙◌, ◌∷◌, ◌≡◌, ◌⊎◌}
+use Rattle.zl_calls.proofs.Common.{WritesMessage, [], answer_if, any, ap, arith, body_in, body_value, body_with_message, cases_Bool, chan_write}
+use Rattle.zl_calls.proofs.Common.{chan_write_slots, cond, consumes, contains, count_by, effect, eq-eqb, false, false≢true, fault_of, filter, first_some}
+use Rattle.zl_calls.proofs.Common.{flat_map, get, get-update, get-without, get_seen, gives_ok, gives_refused, handle_operands, handles_to, has_key, has_seen}
+use Rattle.zl_calls.proofs.Common.{if◌then◌else◌, inl, inr, insert_all, is_some, kind_of, koids_in, length, list_any-append, list_refusal, listed, looked_up}
+use Rattle.zl_calls.proofs.Common.{map, may_choose, message_sent, new_handles, no_value, none-some, not, object_entry, object_value, on_object, on_process}
+use Rattle.zl_calls.proofs.Common.{operand_by, operands_fault, option_map, option_or, option_to_list, or_parts, peer_here, plain_refusal, process_entry}
+use Rattle.zl_calls.proofs.Common.{process_value, queued_to, refl, remove_all, replied, result_err, same_Some, sum_by-append, sum_by-cons, sym, taken}
+use Rattle.zl_calls.proofs.Common.{taken_from, taken_handles, takes, then_some, told_by, true, update, wants_memory, with_effect, without, without_handle}
+use Rattle.zl_calls.proofs.Common.{without_handles, world_value, write_refusal, ℕ, ◌++◌, ◌+◌, ◌<◌, ◌==◌, ◌||◌, ◌∙◌, ◌∷◌, ◌≡◌, ◌⊎◌}
 use Rattle.zl_code.proofs.Common.{Object as ObjectValue}
 use Rattle.zl_rights.specs.declared.kind.Kind.TheVariants as kind
 use Rattle.zl_rights.specs.declared.status.Status.TheVariants as status
@@ -21,16 +21,15 @@ use Rattle.zl_objects.specs.declared.object.Body.TheVariants as body
 use Rattle.zl_objects.specs.declared.object.Object.{Object}
 use Rattle.zl_objects.specs.Objects.{if_there, is_channel_body, is_channel_in, peer_found, peer_of, queue_held, reader_at, reader_of, sending, sent, sent_body}
 use Rattle.zl_calls.specs.declared.process.Process.{Process}
-use Rattle.zl_calls.proofs.Common.{without_handles}
 use Rattle.zl_calls.proofs.calls.Owned.{own_entered}
-use Rattle.zl_calls.proofs.calls.Answered.{IsWrite, table_is}
+use Rattle.zl_calls.proofs.calls.Answered.{IsWrite, asking, table_is}
 use Rattle.zl_calls.proofs.objects.Counting.{queues, sum_update}
 use Rattle.zl_calls.proofs.calls.DoneCalls.{IsCalled, IsDoneBy}
 use Rattle.zl_calls.proofs.objects.Queued.{requeued, requeued_body, more_queued, requeued_kept, requeued_named, requeued_sound}
 use Rattle.zl_calls.proofs.policy.Examining.{list_fault}
 use Rattle.zl_calls.proofs.calls.Refused.{answers, first_looked_up, is_found, is_of_kind, three_tests}
-use Rattle.zl_calls.proofs.calls.TakenCalls.{left_one, named_before, process_without_all, removed, replied_taking, taken_map, taking_done}
-use Rattle.zl_calls.proofs.calls.TakenCalls.{same_koids, taken_sound}
+use Rattle.zl_calls.proofs.calls.TakenCalls.{left_one, named_before, process_without_all, removed, replied_taking, same_koids, taken_map, taken_sound}
+use Rattle.zl_calls.proofs.calls.TakenCalls.{taking_done}
 use Rattle.zl_calls.proofs.objects.SameBodies.{still_named}
 use Rattle.zl_calls.proofs.lists.Updates.{update_seen}
 use Rattle.zl_calls.proofs.objects.Settled.{consistent_of}
@@ -203,12 +202,12 @@ count_koids j (e ∷ es) =
 -- a process of the world, before and after its call
 module _ {before after : List Process} {r : Objects} {p p2 : Process} (lib : Library) (r2 : Objects) (consistent : IsConsistent before r)
     (write : IsWrite before after p p2)
-    (c : ℕ) (bytes hs consumed destinations : List ℕ) where
+    (c : ℕ) (bytes hs : List ℕ) (base : Site) where
   abbrev w : World
   w = world_value before r
 
   abbrev write_site : Site
-  write_site = site (chan_write c bytes hs) consumed destinations
+  write_site = asking (chan_write c bytes hs) base
 
   -- the end at the value c is one of a channel
   reader_here : (e : Entry) → looked_up p.table.entries c (kind.Channel ∷ []) WRITE ≡ Ok e → get p.table.entries c ≡ Some e
@@ -331,3 +330,22 @@ module _ {before after : List Process} {r : Objects} {p p2 : Process} (lib : Lib
       taking_done lib r2 consistent write ready call write_site next hs (takes_listed c bytes hs) no_value
       (λ _. WritesMessage p.table r c bytes hs) wants_memory refused_by
       refused refl (λ answer. refl) (λ _. write_called) o acts.answer acts.acts acts.replied acts.ends
+
+  -- ---- the same of handles in slots, of which the definitions say the same
+
+  abbrev slots_site : Site
+  slots_site = asking (chan_write_slots c bytes hs) base
+
+  slots_called : WritesMessage p.table r c bytes hs p2.table r2 → Replies slots_site status.Ok [] p p2
+      → IsCalled lib before after r r2 p.pid slots_site (outcome.Answered status.Ok)
+  unfolding handle_operands taken_handles listed effect new_handles may_choose gives_ok gives_refused replied plain_refusal
+  slots_called writes replies =
+      let called = write_called writes replies in
+      record { calls = called.calls; own = called.own; keeps = called.keeps }
+
+  pub slots_done : IsDoneBy lib before after r r2 p p2 slots_site (told_by no_value) (ChanWriteDoes c bytes hs)
+  unfolding handle_operands taken_handles listed gives_refused plain_refusal
+  slots_done ready call next o acts =
+      taking_done lib r2 consistent write ready call slots_site next hs (takes_listed c bytes hs) no_value
+      (λ _. WritesMessage p.table r c bytes hs) wants_memory refused_by
+      refused refl (λ answer. refl) (λ _. slots_called) o acts.answer acts.acts acts.replied acts.ends

@@ -5,7 +5,7 @@ use Rattle.zl_calls.proofs.Common.{arith, body_of, cases_Bool, cond, count_by, c
 use Rattle.zl_calls.proofs.Common.{get, gives_ok, handle_operands, has_ended, has_koids, has_room, has_room_in, if◌then◌else◌, inl, inr, insert_all, is_blocked}
 use Rattle.zl_calls.proofs.Common.{is_dead_here, is_process, is_some, job_at, lacks_need, listed, lives, looked_up, map, map-append, may_choose, nat_le}
 use Rattle.zl_calls.proofs.Common.{needs_more, new_entry, new_handles, none-some, not, object_at, object_entry, on_process, operands_fault, option_or}
-use Rattle.zl_calls.proofs.Common.{plain_refusal, process_create, process_entry, process_value, process_with, put, refl, remove_all, replied, runs, site}
+use Rattle.zl_calls.proofs.Common.{plain_refusal, process_create, process_entry, process_value, process_with, put, refl, remove_all, replied, runs}
 use Rattle.zl_calls.proofs.Common.{slice_get, state_passes, state_value, subst, sum_by-cons, sym, taken, taken_handles, then_some, update, with_effect}
 use Rattle.zl_calls.proofs.Common.{with_new, with_object, with_process, world_value, ℕ, ◌&&◌, ◌++◌, ◌+◌, ◌<◌, ◌==◌, ◌^◌, ◌∙◌, ◌∷◌, ◌≡◌}
 use Rattle.zl_code.proofs.Common.{Process as ProcessValue, State as StateValue}
@@ -26,7 +26,7 @@ use Rattle.zl_calls.proofs.calls.Owned.{IsOwn, own_in, own_plain}
 use Rattle.zl_calls.proofs.processes.Freed.{appended_by, entry_there}
 use Rattle.zl_calls.proofs.parts.StartCalls.{process_there}
 use Rattle.zl_code.specs.Own.{entered_free, free_or}
-use Rattle.zl_calls.proofs.calls.Answered.{IsWrite, table_is, may_get_inserted, replied_inserted}
+use Rattle.zl_calls.proofs.calls.Answered.{IsWrite, asking, may_get_inserted, replied_inserted, table_is}
 use Rattle.zl_calls.proofs.objects.Grown.{IsGrowing, grown_seen, kept_grown, there_grown}
 use Rattle.zl_calls.proofs.calls.JobCalls.{IsJobAt, body_seen, job_found, job_looked_up, stands_grown}
 use Rattle.zl_calls.proofs.calls.MakeCalls.{HasRoom, first_entered}
@@ -197,9 +197,9 @@ module _ (lib : Library) (before mid : List Process) (r : Objects) (consistent :
 
   -- ---- the relation of calls
 
-  module _ (consumed destinations : List ℕ) (replies : Replies (site (process_create job program) consumed destinations) status.Ok (made ∷ []) p p2) where
+  module _ (base : Site) (replies : Replies (asking (process_create job program) base) status.Ok (made ∷ []) p p2) where
     abbrev create_site : Site
-    create_site = site (process_create job program) consumed destinations
+    create_site = asking (process_create job program) base
 
     koid_is : object_at w p.pid job ≡ above.koid
     koid_is = rw (table_is write r, is_found (get p.table.entries job) (kind.Job ∷ []) MANAGE_PROCESS above is_above) refl

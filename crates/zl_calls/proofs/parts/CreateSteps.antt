@@ -2,7 +2,7 @@
 use Rattle.zl_calls.proofs.Common.{AreBlocked, AtCall, CallName, CreatesProcess, Entry, Err, IsActed, IsAnsweredIn, IsConsistent, IsRefusedBy, IsToldIn}
 use Rattle.zl_calls.proofs.Common.{Library, List, MANAGE_PROCESS, MakesOne, None, Objects, Ok, Outcome, Parts, ProcessCreateDoes, Replies, Result, Site, Some}
 use Rattle.zl_calls.proofs.Common.{Status, [], ap, cpu_answered, create_refusal, gives_refused, handle_operands, looked_up, next_for, next_looks, none-some}
-use Rattle.zl_calls.proofs.Common.{one_value, parts, plain_refusal, process_create, process_value, refl, remove_all, same_Some, set, site, slice_get, slice_set}
+use Rattle.zl_calls.proofs.Common.{one_value, parts, plain_refusal, process_create, process_value, refl, remove_all, same_Some, set, slice_get, slice_set}
 use Rattle.zl_calls.proofs.Common.{status_of, subst, suc, sym, taken_handles, told_by, wants_memory, with_new, world_value, zero, ℕ, ◌++◌, ◌∙◌, ◌∷◌, ◌≡◌}
 use Rattle.zl_code.specs.declared.history.Outcome.TheVariants as outcome
 use Rattle.zl_code.specs.declared.history.TraceItem.TheVariants as item
@@ -11,7 +11,7 @@ use Rattle.zl_rights.specs.declared.status.Status.TheVariants as status
 use Rattle.zl_objects.specs.declared.object.Body.TheVariants as body
 use Rattle.zl_objects.specs.declared.object.Life.TheVariants as life
 use Rattle.zl_calls.specs.declared.process.Process.{Process}
-use Rattle.zl_calls.proofs.calls.Answered.{IsWrite, same_world}
+use Rattle.zl_calls.proofs.calls.Answered.{IsWrite, asking, same_world}
 use Rattle.zl_calls.proofs.processes.Departed.{settled_world}
 use Rattle.zl_calls.proofs.calls.DoneCalls.{IsCalled, IsDone, called_done}
 use Rattle.zl_calls.proofs.step.OwnCalls.{call_beside}
@@ -42,10 +42,10 @@ get_again (a ∷ xs) ys (suc i) x c at = get_again xs ys i x c at
 
 -- the process p stands at the place, under the pid, and is at the call
 module _ {ps : List Process} {r : Objects} {blocked : List ℕ} {pid place : ℕ} {p : Process} (turn : AtTurn ps r blocked pid place p) (lib : Library)
-    (name : CallName) (free : IsFree lib (world_value ps r) p.pid name) (job program : ℕ) (consumed destinations : List ℕ)
-    (next : next_for lib (process_value p) ≡ AtCall name (site (process_create job program) consumed destinations)) (all2 : Parts) where
+    (name : CallName) (free : IsFree lib (world_value ps r) p.pid name) (job program : ℕ) (base : Site)
+    (next : next_for lib (process_value p) ≡ AtCall name (asking (process_create job program) base)) (all2 : Parts) where
   abbrev s : Site
-  s = site (process_create job program) consumed destinations
+  s = asking (process_create job program) base
 
   -- the step ends so
   abbrev Left : Outcome → Type 0
@@ -143,7 +143,7 @@ module _ {ps : List Process} {r : Objects} {blocked : List ℕ} {pid place : ℕ
     made_calls : (c : PlainCalls lib (world_value ps r) p.pid s (outcome.Answered status.Ok) (world_value made_all made_grown))
         × (is_process (world_value ps r) lives p.pid ≡ true → IsOwn ps made_all r p.pid s.request c.0)
     made_calls = created_calls lib ps mid r turn.consistent p given write_mid same_state job program made above found_above unrefused makes.inserts
-        (has_left p.table.entries r.next_koid makes.unrefused) done.new done.pid done.created consumed destinations replies done.fresh
+        (has_left p.table.entries r.next_koid makes.unrefused) done.new done.pid done.created base replies done.fresh
 
     made_own : IsOwnCall lib ps made_all r made_grown p.pid name (outcome.Answered status.Ok)
     made_own = own_call_of lib ps made_all r made_grown p name s (outcome.Answered status.Ok) (itself turn).there next (world_value made_all made_grown)

@@ -7,7 +7,7 @@ use Rattle.zl_calls.proofs.Common.{in_order-each, inl, inr, insert_all, is_block
 use Rattle.zl_calls.proofs.Common.{kill_refusal, killing, listed, lives, lives_on, looked_up, map, may_choose, nat_cmp, nat_tests, new_handles, next_for}
 use Rattle.zl_calls.proofs.Common.{none-some, not, object_at, object_entry, object_killed, on_process, one_more, operands_fault, option_map, parts}
 use Rattle.zl_calls.proofs.Common.{plain_refusal, process_ended, process_entry, process_killed, process_value, refl, releases_then, remove_all, replied}
-use Rattle.zl_calls.proofs.Common.{result_err, same_Some, settles_waiting, site, slice_get, slice_set, state_passes, state_value, subst, suc, sum_by, sym}
+use Rattle.zl_calls.proofs.Common.{result_err, same_Some, settles_waiting, slice_get, slice_set, state_passes, state_value, subst, suc, sum_by, sym}
 use Rattle.zl_calls.proofs.Common.{table_of, taken, taken_handles, task_kill, times, true, update, with_waiters, world_blocked, world_value, zero, ℕ, ℤ, ◌&&◌}
 use Rattle.zl_calls.proofs.Common.{◌+◌, ◌<◌, ◌==◌, ◌^◌, ◌∙◌, ◌∷◌, ◌≡◌, ◌⊎◌}
 use Rattle.zl_rights.specs.declared.kind.Kind.TheVariants as kind
@@ -38,7 +38,7 @@ use Rattle.zl_calls.proofs.parts.KillWorlds.{blocked_left, objects_killed, proce
 use Rattle.zl_calls.proofs.calls.Refused.{answers, is_found, first_looked_up}
 use Rattle.zl_calls.proofs.objects.Settled.{IsSettled, settled}
 use Rattle.zl_calls.proofs.parts.StartCalls.{writes_at}
-use Rattle.zl_calls.proofs.calls.Answered.{IsWrite}
+use Rattle.zl_calls.proofs.calls.Answered.{IsWrite, asking}
 use Rattle.zl_calls.proofs.Common.{ActsAndSettles, Settles}
 use Rattle.zl_calls.proofs.calls.Owned.{IsOwn, own_in}
 use Rattle.zl_calls.proofs.processes.Freed.{killed_free_by, own_free, set_free_by}
@@ -246,14 +246,14 @@ was_blocked true q h = elim (cases_Bool (lives q.state)) as (λ _. process_kille
 module _ (lib : Library) (ps : List Process) (r : Objects) (whole : IsConsistent ps r) (blocked : List ℕ) (are : AreBlocked ps blocked)
     (sound : IsSound (world_blocked ps r blocked)) (place : ℕ) (p : Process)
     (here : slice_get ps place ≡ Some p) (there : get (map process_entry ps) p.pid ≡ Some (process_value p)) (ready : state_value p.state ≡ Ready)
-    (name : CallName) (task : ℕ) (consumed destinations : List ℕ)
-    (next : next_for lib (process_value p) ≡ AtCall name (site (task_kill task) consumed destinations))
+    (name : CallName) (task : ℕ) (base : Site)
+    (next : next_for lib (process_value p) ≡ AtCall name (asking (task_kill task) base))
     (free : refusal lib (world_blocked ps r blocked) p.pid (task_kill task) ≡ plain_refusal lib (world_blocked ps r blocked) p.pid (task_kill task)) where
   abbrev w : World
   w = world_blocked ps r blocked
 
   abbrev kill_site : Site
-  kill_site = site (task_kill task) consumed destinations
+  kill_site = asking (task_kill task) base
 
   module _ (all2 : Parts) (named : Entry) (is_named : looked_up p.table.entries task (kind.Process ∷ kind.Job ∷ []) DESTROY ≡ Ok named)
       (kills : KillsTask (parts ps r blocked) named.koid all2) where

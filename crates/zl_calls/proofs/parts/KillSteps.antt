@@ -1,7 +1,7 @@
 -- The call task_kill as a step: refused, done, or with the end of its caller.
 use Rattle.zl_calls.proofs.Common.{AtCall, CallName, Err, IsAnsweredIn, IsConsistent, IsRefusedBy, IsToldIn, KillsNamed, Library, List, Objects, Ok, Outcome}
 use Rattle.zl_calls.proofs.Common.{Parts, Ready, Result, Site, Status, TaskKillDoes, [], ap, cpu_answered, false, gives_refused, handle_operands, is_blocked}
-use Rattle.zl_calls.proofs.Common.{kill_refusal, next_for, no_value, parts, plain_refusal, process_value, refl, remove_all, set, site, slice_get, slice_set}
+use Rattle.zl_calls.proofs.Common.{kill_refusal, next_for, no_value, parts, plain_refusal, process_value, refl, remove_all, set, slice_get, slice_set}
 use Rattle.zl_calls.proofs.Common.{state_value, status_of, subst, sym, taken_handles, task_kill, told_by, wants_nothing, world_blocked, world_value, ℕ, ℤ, ⊤}
 use Rattle.zl_calls.proofs.Common.{◌∙◌, ◌≡◌}
 use Rattle.zl_rights.specs.declared.status.Status.TheVariants as status
@@ -14,7 +14,7 @@ use Rattle.zl_calls.specs.declared.process.Process.{Process}
 use Rattle.zl_calls.specs.declared.process.State.TheVariants as state
 use Rattle.zl_calls.proofs.parts.KillCalls.{dies_so, kill_refused, leaves_so, lives_so}
 use Rattle.zl_calls.proofs.step.FromConsistent.{IsFree, freely_so}
-use Rattle.zl_calls.proofs.calls.Answered.{IsWrite, table_is, same_world}
+use Rattle.zl_calls.proofs.calls.Answered.{IsWrite, asking, same_world, table_is}
 use Rattle.zl_calls.proofs.calls.AmongWaits.{ends_among}
 use Rattle.zl_calls.proofs.waking.BlockedLists.{still_blocked}
 use Rattle.zl_calls.proofs.objects.Settled.{still_settles}
@@ -27,10 +27,10 @@ use Rattle.zl_calls.proofs.processes.Written.{refusal_keeps}
 -- the process p stands at the place, under the pid, and is at the call
 module _ {ps : List Process} {r : Objects} {blocked : List ℕ} {pid place : ℕ} {p : Process} (turn : AtTurn ps r blocked pid place p) (lib : Library)
     (name : CallName) (free : IsFree lib (world_value ps r) p.pid name) (free_beside : IsFree lib (world_blocked ps r blocked) p.pid name) (task : ℕ)
-    (consumed destinations : List ℕ)
-    (next : next_for lib (process_value p) ≡ AtCall name (site (task_kill task) consumed destinations)) (all2 : Parts) where
+    (base : Site)
+    (next : next_for lib (process_value p) ≡ AtCall name (asking (task_kill task) base)) (all2 : Parts) where
   abbrev s : Site
-  s = site (task_kill task) consumed destinations
+  s = asking (task_kill task) base
 
   -- the step ends so
   abbrev Left : Outcome → Type 0
@@ -105,7 +105,7 @@ module _ {ps : List Process} {r : Objects} {blocked : List ℕ} {pid place : ℕ
       (under_pid (outcome.Answered status.Ok)
       (slice_set between.processes place (record (is_told.caller) { cpu = cpu_answered s status.Ok [] is_told.caller.cpu })) between.objects between.blocked
       (lives_so lib ps r turn.consistent blocked turn.are turn.sound place p (here ps pid place p turn.found turn.read) (itself turn).there is_ready_process
-      name task consumed destinations next free_there between done.named done.is_named done.kills is_told.caller is_told.is_there alive))
+      name task base next free_there between done.named done.is_named done.kills is_told.caller is_told.is_there alive))
 
   pub kill_so : (o : Outcome) → (a : IsAnsweredIn (told_by no_value) (TaskKillDoes task p) s place (parts ps r blocked) o all2)
       → ((code : ℤ) → a.is_told.caller.state ≡ state.Ended code → ⊥) → Left o
@@ -116,4 +116,4 @@ module _ {ps : List Process} {r : Objects} {blocked : List ℕ} {pid place : ℕ
       let done : KillsNamed (parts ps r blocked) p task all2 = e.does.ok in
       subst Left (sym e.ends) (under_pid (outcome.Ended e.code) all2.processes all2.objects all2.blocked
       (dies_so lib ps r turn.consistent blocked turn.are turn.sound place p (here ps pid place p turn.found turn.read) (itself turn).there is_ready_process
-      name task consumed destinations next free_there all2 done.named done.is_named done.kills e.caller e.code e.is_there e.is_over))
+      name task base next free_there all2 done.named done.is_named done.kills e.caller e.code e.is_there e.is_over))

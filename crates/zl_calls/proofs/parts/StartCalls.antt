@@ -5,7 +5,7 @@ use Rattle.zl_calls.proofs.Common.{WRITE, World, [], and_from, answer_if, ap, ar
 use Rattle.zl_calls.proofs.Common.{effect, eq-eqb, eqb-true, false, first_some, get, get-update, gives_ok, handle_operands, has_key, if◌then◌else◌, inl, inr}
 use Rattle.zl_calls.proofs.Common.{insert_all, is_created, is_process, is_sorted, listed, looked_up, map, may_choose, may_get, misfits, nat_cmp, ne_eqb}
 use Rattle.zl_calls.proofs.Common.{new_handles, none-some, not, object_entry, object_value, on_process, operands_fault, option_map, plain_refusal, process_at}
-use Rattle.zl_calls.proofs.Common.{process_entry, process_start, process_value, process_with, process_without, refl, remove_all, replied, same_Some, site}
+use Rattle.zl_calls.proofs.Common.{process_entry, process_start, process_value, process_with, process_without, refl, remove_all, replied, same_Some}
 use Rattle.zl_calls.proofs.Common.{slice_get, slice_set, sorted_parts, start_refusal, started, started_with, starting, state_passes, state_value, subst, suc}
 use Rattle.zl_calls.proofs.Common.{sym, table_of, taken, taken_handles, true, update, without, without_handle, world_value, zero, ℕ, ◌<◌, ◌==◌, ◌∙◌, ◌∷◌, ◌≡◌}
 use Rattle.zl_code.proofs.Common.{Process as ProcessValue}
@@ -13,13 +13,12 @@ use Rattle.zl_rights.specs.declared.kind.Kind.TheVariants as kind
 use Rattle.zl_rights.specs.declared.status.Status.TheVariants as status
 use Rattle.zl_code.specs.Starting.{program_in}
 use Rattle.zl_code.specs.declared.history.Outcome.TheVariants as outcome
-use Rattle.zl_objects.specs.declared.object.Body.TheVariants as body
 use Rattle.zl_objects.specs.declared.object.Object.{Object}
 use Rattle.zl_calls.proofs.processes.Freed.{entry_there}
 use Rattle.zl_calls.specs.World.{free_of}
 use Rattle.zl_calls.specs.declared.process.Process.{Process}
 use Rattle.zl_calls.specs.declared.process.State.TheVariants as state
-use Rattle.zl_calls.proofs.calls.Answered.{IsWrite, may_get_inserted}
+use Rattle.zl_calls.proofs.calls.Answered.{IsWrite, asking, may_get_inserted}
 use Rattle.zl_calls.proofs.calls.Refused.{answers, is_found, both_looked_up, two_tests}
 use Rattle.zl_calls.proofs.lists.Updates.{update_twice, update_unseen}
 use Rattle.zl_calls.proofs.parts.StartSound.{started_seen}
@@ -112,12 +111,12 @@ module _ (lib : Library) (ps : List Process) (r : Objects) (p : Process) (there 
   -- ---- what it does
 
   -- the process that starts, and the handle that it gets, at this value
-  module _ (consumed destinations : List ℕ) (named e : Entry) (is_named : looked_up p.table.entries process (kind.Process ∷ []) WRITE ≡ Ok named)
+  module _ (base : Site) (named e : Entry) (is_named : looked_up p.table.entries process (kind.Process ∷ []) WRITE ≡ Ok named)
       (is_given : looked_up p.table.entries h [] TRANSFER ≡ Ok e)
       (apart : (p.pid == named.koid) ≡ false) (child begun : Process) (child_there : get (map process_entry ps) named.koid ≡ Some (process_value child))
       (value : ℕ) (inserts : Inserts child.table e value begun.table) where
     abbrev start_site : Site
-    start_site = site (process_start process h word) consumed destinations
+    start_site = asking (process_start process h word) base
 
     named_there : get p.table.entries process ≡ Some named
     named_there = is_found (get p.table.entries process) (kind.Process ∷ []) WRITE named is_named

@@ -8,7 +8,7 @@ use Rattle.zl_calls.proofs.Common.{taken_handles}
 use Rattle.zl_code.proofs.Common.{Values}
 use Rattle.zl_code.specs.CallTable.{new_handles}
 use Rattle.zl_code.specs.Own.{entered_free, free_at, taken_all}
-use Rattle.zl_rights.specs.Values.{Free, coming, offered, taken}
+use Rattle.zl_rights.specs.Values.{Free, coming, taken}
 use Rattle.zl_rights.specs.declared.kind.Kind.TheVariants as kind
 use Rattle.zl_calls.specs.World.{free_entry, free_of}
 use Rattle.zl_calls.specs.declared.process.Process.{Process}

@@ -2,7 +2,7 @@
 use Rattle.zl_calls.proofs.Common.{IsToldIn, IsTrue, Library, List, Map, None, Objects, Ok, Parts, PlainCalls, Site, Some, StartsProcess, TRANSFER, WRITE, []}
 use Rattle.zl_calls.proofs.Common.{ap, cases_Bool, cpu_answered, eqb-true, false, get, inl, inr, is_created, is_ready, is_sorted, is_sorted-update, looked_up}
 use Rattle.zl_calls.proofs.Common.{map, nat_cmp, no_value, parts, process_entry, process_start, process_value, process_with, process_without, refl, same_Some}
-use Rattle.zl_calls.proofs.Common.{site, slice_get, slice_set, start_refusal, started_with, state_value, subst, sym, told_by, true, update, without_handle}
+use Rattle.zl_calls.proofs.Common.{slice_get, slice_set, start_refusal, started_with, state_value, subst, sym, told_by, true, update, without_handle}
 use Rattle.zl_calls.proofs.Common.{world_value, ℕ, ◌==◌, ◌∙◌, ◌∷◌, ◌≡◌, ◌≢◌}
 use Rattle.zl_code.proofs.Common.{Process as ProcessValue, State}
 use Rattle.zl_rights.specs.declared.kind.Kind.TheVariants as kind
@@ -10,17 +10,17 @@ use Rattle.zl_rights.specs.declared.status.Status.TheVariants as status
 use Rattle.zl_code.specs.declared.history.Outcome.TheVariants as outcome
 use Rattle.zl_calls.specs.declared.process.Process.{Process}
 use Rattle.zl_code.proofs.Common.{Values}
-use Rattle.zl_calls.proofs.calls.Answered.{IsWrite}
+use Rattle.zl_calls.proofs.calls.Answered.{IsWrite, asking}
 use Rattle.zl_calls.proofs.parts.StartCalls.{caller_is, child_is, start_calls, writes_at}
 use Rattle.zl_calls.proofs.parts.StartParts.{get_set, not_both, set_apart, set_twice}
 use Rattle.zl_verify.proofs.Places.{get_put_other}
 
 module _ {lib : Library} {ps : List Process} {r : Objects} {blocked : List ℕ} {place process h word : ℕ} {p : Process} {all1 all2 : Parts}
-    {consumed destinations : List ℕ} (is_caller : slice_get ps place ≡ Some p) (ready : is_ready (state_value p.state) ≡ true)
+    (base : Site) (is_caller : slice_get ps place ≡ Some p) (ready : is_ready (state_value p.state) ≡ true)
     (sorted : IsTrue (is_sorted nat_cmp (map process_entry ps))) (does : StartsProcess lib (parts ps r blocked) place process h word all1)
-    (tells : IsToldIn (site (process_start process h word) consumed destinations) place (told_by no_value (Ok tt)) all1 all2) where
+    (tells : IsToldIn (asking (process_start process h word) base) place (told_by no_value (Ok tt)) all1 all2) where
   abbrev s : Site
-  s = site (process_start process h word) consumed destinations
+  s = asking (process_start process h word) base
 
   same_caller : does.caller ≡ p
   same_caller = same_Some does.caller p (sym does.is_caller.is_there ∙ is_caller)
@@ -97,12 +97,12 @@ module _ {lib : Library} {ps : List Process} {r : Objects} {blocked : List ℕ} 
 
   caller_seen : process_value p2 ≡ caller_now (process_value p)
   caller_seen =
-      caller_is lib ps r p caller_held process h word consumed destinations does.named does.given is_named is_given other_pid does.child does.started child_held
+      caller_is lib ps r p caller_held process h word base does.named does.given is_named is_given other_pid does.child does.started child_held
       does.value does.inserts p2 refl
 
   child_seen : process_value does.started ≡ child_now (process_value does.child)
   child_seen =
-      child_is lib ps r p caller_held process h word consumed destinations does.named does.given is_named is_given other_pid does.child does.started child_held
+      child_is lib ps r p caller_held process h word base does.named does.given is_named is_given other_pid does.child does.started child_held
       does.value does.inserts does.starts
 
   processes_are : map process_entry all2.processes ≡ update (update (map process_entry ps) does.named.koid child_now) p.pid caller_now
@@ -117,6 +117,6 @@ module _ {lib : Library} {ps : List Process} {r : Objects} {blocked : List ℕ} 
   start_relates =
       subst (λ (x : Objects). (c : PlainCalls lib (world_value ps r) p.pid s (outcome.Answered status.Ok) (world_value all2.processes x))
       × (c.0 ≡ Values (does.value ∷ []))) (sym (tells.objects ∙ does.objects))
-      (start_calls lib ps r p caller_held process h word consumed destinations does.named does.given is_named is_given other_pid does.child does.started
+      (start_calls lib ps r p caller_held process h word base does.named does.given is_named is_given other_pid does.child does.started
       child_held does.value does.inserts (subst (λ (q : Process). start_refusal lib ps q.table.entries process h ≡ None) same_caller does.unrefused)
       all2.processes does.child.pid processes_are)

@@ -2,7 +2,7 @@
 use Rattle.zl_calls.proofs.Common.{AreBlocked, AtCall, CallName, ClosesEach, ClosesHandle, Err, Handles, IsActed, IsAnsweredIn, IsConsistent, IsNamed}
 use Rattle.zl_calls.proofs.Common.{IsRefusedBy, IsToldIn, Kind, Library, List, Objects, Ok, Outcome, Parts, PlainCalls, ProcessStartDoes, Result, Site, Some}
 use Rattle.zl_calls.proofs.Common.{StartsProcess, Status, TRANSFER, WRITE, World, [], ap, cpu_answered, false≢true, get, gives_refused, handle_operands}
-use Rattle.zl_calls.proofs.Common.{looked_up, next_for, next_looks, no_value, parts, process_start, process_value, refl, same_Some, set, site, slice_get}
+use Rattle.zl_calls.proofs.Common.{looked_up, next_for, next_looks, no_value, parts, process_start, process_value, refl, same_Some, set, slice_get}
 use Rattle.zl_calls.proofs.Common.{slice_set, start_refusal, starting, state_value, status_of, subst, sym, taken_handles, takes, told_by, true, wants_memory}
 use Rattle.zl_calls.proofs.Common.{without_handle, world_value, ℕ, ⊤, ◌∙◌, ◌∷◌, ◌≡◌}
 use Rattle.zl_code.specs.declared.history.Outcome.TheVariants as outcome
@@ -11,7 +11,7 @@ use Rattle.zl_rights.specs.declared.kind.Kind.TheVariants as kind
 use Rattle.zl_rights.specs.declared.status.Status.TheVariants as status
 use Rattle.zl_calls.specs.declared.process.Process.{Process}
 use Rattle.zl_calls.specs.declared.process.State.TheVariants as state
-use Rattle.zl_calls.proofs.calls.Answered.{IsWrite}
+use Rattle.zl_calls.proofs.calls.Answered.{IsWrite, asking}
 use Rattle.zl_calls.proofs.processes.Departed.{left_all, settled_world}
 use Rattle.zl_calls.proofs.waits.LeftWaits.{lists_kept}
 use Rattle.zl_calls.proofs.calls.DoneCalls.{IsDone}
@@ -38,10 +38,10 @@ task_taken _ h = absurd (false≢true h)
 
 -- the process p stands at the place, under the pid, and is at the call
 module _ {ps : List Process} {r : Objects} {blocked : List ℕ} {pid place : ℕ} {p : Process} (turn : AtTurn ps r blocked pid place p) (lib : Library)
-    (name : CallName) (free : IsFree lib (world_value ps r) p.pid name) (process h word : ℕ) (consumed destinations : List ℕ)
-    (next : next_for lib (process_value p) ≡ AtCall name (site (process_start process h word) consumed destinations)) (all2 : Parts) where
+    (name : CallName) (free : IsFree lib (world_value ps r) p.pid name) (process h word : ℕ) (base : Site)
+    (next : next_for lib (process_value p) ≡ AtCall name (asking (process_start process h word) base)) (all2 : Parts) where
   abbrev s : Site
-  s = site (process_start process h word) consumed destinations
+  s = asking (process_start process h word) base
 
   -- the step ends so
   abbrev Left : Outcome → Type 0
@@ -98,16 +98,16 @@ module _ {ps : List Process} {r : Objects} {blocked : List ℕ} {pid place : ℕ
     after = slice_set mid place answered
 
     write_child : IsWrite ps mid does.child does.started
-    write_child = child_write at_place turn.ready turn.consistent.processes_in_order does tells
+    write_child = child_write base at_place turn.ready turn.consistent.processes_in_order does tells
 
     write_caller : IsWrite mid after p answered
-    write_caller = caller_write at_place turn.ready turn.consistent.processes_in_order does tells
+    write_caller = caller_write base at_place turn.ready turn.consistent.processes_in_order does tells
 
     named_is : looked_up p.table.entries process (kind.Process ∷ []) WRITE ≡ Ok does.named
-    named_is = is_named at_place turn.ready turn.consistent.processes_in_order does tells
+    named_is = is_named base at_place turn.ready turn.consistent.processes_in_order does tells
 
     given_is : looked_up p.table.entries h [] TRANSFER ≡ Ok does.given
-    given_is = is_given at_place turn.ready turn.consistent.processes_in_order does tells
+    given_is = is_given base at_place turn.ready turn.consistent.processes_in_order does tells
 
     names_it : IsNamed r.objects does.named
     names_it =
@@ -135,20 +135,20 @@ module _ {ps : List Process} {r : Objects} {blocked : List ℕ} {pid place : ℕ
         (unblocked turn) blocked turn.are
 
     processes_are : all2.processes ≡ after
-    processes_are = all_is at_place turn.ready turn.consistent.processes_in_order does tells
+    processes_are = all_is base at_place turn.ready turn.consistent.processes_in_order does tells
 
     objects_are : all2.objects ≡ begun
     objects_are = tells.objects ∙ does.objects
 
     relates : (c : PlainCalls lib (world_value ps r) p.pid s (outcome.Answered status.Ok) (world_value after begun)) × (c.0 ≡ Values (does.value ∷ []))
     relates = subst (λ (w : World). (c : PlainCalls lib (world_value ps r) p.pid s (outcome.Answered status.Ok) w) × (c.0 ≡ Values (does.value ∷ [])))
-        (λ i. world_value (processes_are i) (objects_are i)) (start_relates at_place turn.ready turn.consistent.processes_in_order does tells)
+        (λ i. world_value (processes_are i) (objects_are i)) (start_relates base at_place turn.ready turn.consistent.processes_in_order does tells)
 
     begun_own : IsOwnCall lib ps after r begun p.pid name (outcome.Answered status.Ok)
     begun_own = own_call_of lib ps after r begun p name s (outcome.Answered status.Ok) (itself turn).there next (world_value after begun) relates.0
         (λ living. subst (IsOwn ps after r p.pid s.request) (sym relates.1)
         (start_own (itself turn) write_child write_caller r process h word does.named does.given named_is given_is does.pid
-        (other_pid at_place turn.ready turn.consistent.processes_in_order does tells)
+        (other_pid base at_place turn.ready turn.consistent.processes_in_order does tells)
         (ap lives (created_state does.child.state does.is_created)) is_ready_now does.value does.inserts refl living)) (still_settles after begun keeps)
 
     step : IsActed lib (world_value ps r) p.pid (item.Call p.pid name (outcome.Answered status.Ok)) (settled_world after begun)

@@ -4,11 +4,15 @@ use Rattle.zl_calls.proofs.Common.{TRANSFER, Verdict, WRITE, [], ap, arith, call
 use Rattle.zl_calls.proofs.Common.{fields_fault, flat_map, get, get_or, handle_operands, if◌then◌else◌, job_at, job_in, last_fault, length, list_refusal}
 use Rattle.zl_calls.proofs.Common.{looked_up, map, operand_by, operands_fault, option_or, refl, reg, result_err, site_at, site_named, site_of, slice_index}
 use Rattle.zl_calls.proofs.Common.{subst, suc, sym, then_some, true, used, verdict_by, verdict_in, verdict_on, zero, ℕ, ◌++◌, ◌<◌, ◌==◌, ◌||◌, ◌∙◌, ◌∷◌, ◌≡◌}
+use Rattle.zl_calls.proofs.Common.{◌≤◌}
 use Rattle.std.proofs.Math.Bool.{or_comm}
 use Rattle.std.proofs.lemmas.List.Recursion.{or_push}
 use Rattle.zl_code.specs.declared.history.CallName.TheVariants as name
 use Rattle.zl_rights.specs.declared.kind.Kind.TheVariants as kind
 use Rattle.zl_rights.specs.declared.status.Status.TheVariants as status
+use Rattle.std.proofs.lemmas.List.{drop_all}
+use Rattle.zl_code.specs.Asked.{array_in, emptied_count, filled_among, given_in, listed_values}
+use Rattle.zl_code.specs.declared.layout.Ending.{Ending}
 use Rattle.zl_code.specs.declared.layout.Field.{Field}
 use Rattle.zl_calls.specs.FieldFaults.{field_fault}
 use Rattle.zl_objects.specs.Jobs.{action_here}
@@ -47,6 +51,15 @@ module _ (entries : Map Entry) where
   one_examined c rs in_list d (g ∷ fs) n zero within none = rw none refl
   one_examined c rs in_list d (g ∷ fs) n (suc k) within none = one_examined c rs in_list d fs n k (omega (arith, within)) none
 
+  -- all fields were examined, and behind them come these handles
+  pub behind_all : (c : Cpu) (i : CallInstr) (fs : List Field) (n : ℕ) (e other : Ending) (hs : List ℕ) → length fs ≤ n → e ≡ other
+      → hs ≡ listed_values other (given_in other i c)
+      → (let in_list = last_fault entries c e i in
+      fields_fault entries c (map field_of fs) 0 i.registers in_list ≡ fields_fault entries c (map field_of (drop n fs)) n i.registers in_list)
+      → list_refusal entries [] hs ≡ fields_fault entries c (map field_of fs) 0 i.registers (last_fault entries c e i)
+  behind_all c i fs n e other hs past is same so_far =
+      ap (list_refusal entries []) same ∙ ((λ k. last_fault entries c (sym is k) i) ∙ sym (so_far ∙ rw (drop_all n fs past) refl))
+
   -- the first fault of a call of the row
   abbrev pub row_fault : Row → CallInstr → Cpu → Option Status
   row_fault r i c = fields_fault entries c r.fields 0 i.registers (last_fault entries c r.ending i)
@@ -63,6 +76,10 @@ module _ (entries : Map Entry) where
   by_name name.ChanWrite rs last c P holds =
       subst (λ f. P None (option_or (result_err (looked_up entries (reg c (slice_index rs 1)) (kind.Channel ∷ []) WRITE)) f))
       (list_fault [] [] (map (reg c) (used last)) (λ v. refl)) holds
+  by_name name.ChanWriteSlots rs last c P holds =
+      let i : CallInstr = record { name = name.ChanWriteSlots; registers = rs; last = last } in
+      subst (λ f. P None (option_or (result_err (looked_up entries (reg c (slice_index rs 1)) (kind.Channel ∷ []) WRITE)) f))
+      (list_fault [] [] (filled_among (emptied_count i c) (array_in i c)) (λ v. refl)) holds
   by_name _ rs last c P holds = holds
 
   pub at_row : (i : CallInstr) (c : Cpu) (P : Option Condition → Option Status → Type 0) → P (call_row i.name).condition (row_fault (call_row i.name) i c)

@@ -3,7 +3,7 @@ use Rattle.zl_calls.proofs.Common.{ActsHere, All-contains, All-contains_itself, 
 use Rattle.zl_calls.proofs.Common.{IsSoundWait, IsTrue, Library, List, None, NotesNext, Objects, Ok, Option, Outcome, Parts, Request, Result, Site, Some}
 use Rattle.zl_calls.proofs.Common.{Status, Taken, TaskKillDoes, Verdict, action_asked, acts, and_from, and_parts, ap, asks_again, cases_Bool, entry_at}
 use Rattle.zl_calls.proofs.Common.{eqb-true, false≢true, get, handles_in, has_handle, has_key, has_seen, inl, inr, is_end, is_left, is_made_by_handle, kills}
-use Rattle.zl_calls.proofs.Common.{kills_itself, map, name_of, none-some, parts, process_entry, process_value, refl, same_Some, set, site, slice_get}
+use Rattle.zl_calls.proofs.Common.{kills_itself, map, name_of, none-some, parts, process_entry, process_value, refl, same_Some, set, slice_get}
 use Rattle.zl_calls.proofs.Common.{slice_index_or, slice_set, starts, subst, sym, task_kill, true, world_blocked, world_value, ℕ, ℤ, ⊤, ◌&&◌, ◌==◌, ◌∙◌, ◌≡◌}
 use Rattle.zl_rights.specs.World.{Wait}
 use Rattle.zl_code.proofs.Common.{Process as ProcessValue}
@@ -18,6 +18,7 @@ use Rattle.zl_calls.proofs.step.TakenKnown.{AreThere, ends_processes, taken_know
 use Rattle.zl_calls.proofs.parts.KillWaits.{killed_has, killed_older}
 use Rattle.zl_calls.proofs.waits.EndedWaits.{acted_exits}
 use Rattle.zl_calls.proofs.waits.Staying.{AreLeft, written_keeps}
+use Rattle.zl_calls.proofs.calls.Answered.{asking}
 
 -- the handle is there by which each of the waits was made
 abbrev HaveHandles : List Process → Objects → Type 0
@@ -96,10 +97,10 @@ module _ {ps : List Process} {r : Objects} {blocked : List ℕ} {pid place : ℕ
         killed_has ps r blocked does.ok.named.koid between does.ok.kills x listed h.process h.at h.e h.live h.names
     killed task between (Err s) does x listed = subst (λ (all : Parts). HaveHandles all.processes all.objects) (sym does.refused) before x listed
 
-    exits_so : (request : Request) (consumed destinations : List ℕ) (p2 : Process) → ends_processes (name_of request) o ≡ true
-        → ActsHere (action_asked p.pid request) (site request consumed destinations) p r o p2 all2.objects → is_end o ≡ true
-    exits_so (task_kill task) c d p2 ends does = absurd does
-    exits_so request c d p2 ends does = ends
+    exits_so : (request : Request) (s : Site) (p2 : Process) → ends_processes (name_of request) o ≡ true
+        → ActsHere (action_asked p.pid request) (asking request s) p r o p2 all2.objects → is_end o ≡ true
+    exits_so (task_kill task) s p2 ends does = absurd does
+    exits_so request s p2 ends does = ends
 
     ended_left : (name : CallName) (s : Site) → name_of s.request ≡ name → ends_processes name o ≡ true → CallActs lib place p s (parts ps r blocked) o all2
         → Left
@@ -119,7 +120,7 @@ module _ {ps : List Process} {r : Objects} {blocked : List ℕ} {pid place : ℕ
     ended_left name s named ends (reaches none (kills_itself task is e)) = have (killed task all2 (Ok tt) e.does)
     ended_left name s named ends (acts p2 none alone does) =
         let exit = acted_exits (action_asked p.pid s.request) s p p2 r all2.objects o does
-        (exits_so s.request s.consumed s.destinations p2 (ap (λ n. ends_processes n o) named ∙ ends) does) in
+        (exits_so s.request s p2 (ap (λ n. ends_processes n o) named ∙ ends) does) in
         over exit.0 p2 alone.processes exit.1.over
 
     -- behind each call a wait is left, or else the call took the handle by which it was made

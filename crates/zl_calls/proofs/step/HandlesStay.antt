@@ -4,9 +4,9 @@ use Rattle.zl_calls.proofs.Common.{AtCall, Awaited, Bool, CallBy, CallName, Choi
 use Rattle.zl_calls.proofs.Common.{Outcome, Process, Refused, Request, Settles, Site, Some, Status, Values, Wants, World, [], after_ok, after_refusal, ap}
 use Rattle.zl_calls.proofs.Common.{arith, awaited_by, cases_Bool, created_process, effect, entering_at, eqb-true, false, false≢true, get, get-each, get-put}
 use Rattle.zl_calls.proofs.Common.{get-update, get-where_key-in, gives_ok, gives_refused, has_handle, has_key, if◌then◌else◌, inl, inr, insert_all, is_end}
-use Rattle.zl_calls.proofs.Common.{is_some, new_handles, not, on_object, on_process, option_map, process_create, process_settled, process_start, process_with}
-use Rattle.zl_calls.proofs.Common.{process_without, receiver_of, refl, remove_all, replied, stored_by, storing, subst, sym, taken, taken_handles, task_kill}
-use Rattle.zl_calls.proofs.Common.{true, waiting, where_key, with_object, without, without_others, ℕ, ◌==◌, ◌∙◌, ◌∷◌, ◌≡◌, ◌⊎◌}
+use Rattle.zl_calls.proofs.Common.{is_some, keeping, kept_by, new_handles, not, on_object, on_process, option_map, process_create, process_settled}
+use Rattle.zl_calls.proofs.Common.{process_start, process_with, process_without, receiver_of, refl, remove_all, replied, stored_by, storing, subst, sym, taken}
+use Rattle.zl_calls.proofs.Common.{taken_handles, task_kill, true, waiting, where_key, with_object, without, without_others, ℕ, ◌==◌, ◌∙◌, ◌∷◌, ◌≡◌, ◌⊎◌}
 use Rattle.zl_rights.specs.declared.status.Status.TheVariants as status
 use Rattle.zl_code.specs.declared.history.Outcome.TheVariants as outcome
 use Rattle.zl_code.specs.declared.history.TraceItem.TheVariants as item
@@ -99,6 +99,10 @@ stored : (w : World) (p : ℕ) (at : ℕ × List ℕ) → Keeps w (storing w p a
 stored w p (address, []) k v has = has
 stored w p (address, b ∷ bytes) k v has = written w p _ (λ x n there. there) k v has
 
+kept : (w : World) (p : ℕ) (x : Option (ℕ × List ℕ)) → Keeps w (keeping w p x)
+kept w p None k v has = has
+kept w p (Some x) k v has = written w p _ (λ y n there. there) k v has
+
 -- the request kills nothing
 abbrev pub spares : Request → Bool
 spares (task_kill task) = false
@@ -158,11 +162,13 @@ module _ (lib : Library) (w : World) (p : ℕ) (s : Site) (free : get w.processe
   done vs (outcome.Answered answer) goes =
       let doing = effect lib w (taken w p s) p s.request vs in
       let giving = insert_all doing (receiver_of w p s.request) (new_handles w p s.request) (entering_at s.request vs) in
+      let storing_all = storing giving p (stored_by w p s.request) in
       but_then p hs w (taken w p s) (after_ok lib w p s vs (outcome.Answered answer)) (removed p hs w) (λ k v has.
-      replies (storing giving p (stored_by w p s.request)) p s status.Ok (gives_ok w p s.request vs) k v
+      replies (keeping storing_all p (kept_by s.request vs)) p s status.Ok (gives_ok w p s.request vs) k v
+      (kept storing_all p (kept_by s.request vs) k v
       (stored giving p (stored_by w p s.request) k v
       (entered (receiver_of w p s.request) (new_handles w p s.request) (entering_at s.request vs) doing k v
-      (effected lib w (taken w p s) p s.request vs (still_free p w.next_koid hs w free) plain k v has))))
+      (effected lib w (taken w p s) p s.request vs (still_free p w.next_koid hs w free) plain k v has)))))
   done vs (outcome.Ended code) goes = absurd (false≢true (sym goes))
   done vs outcome.Blocked goes = λ k v has. inl (by_awaited (awaited_by w p s.request) k v has)
     where

@@ -1,11 +1,11 @@
 -- What the item of a step tells of the process: which call it did, that it ran, or that it was stuck.
 use Rattle.zl_calls.specs.World.{free_entry}
 use Rattle.zl_calls.proofs.Common.{AtCall, CallInstr, CallName, Cpu, DoesNext, EndsUnheld, HaveLeft, HavePrograms, IfNone, IfSome, IsStuck, IsTrue, Library}
-use Rattle.zl_calls.proofs.Common.{List, Machine, Moves, Next, None, Objects, Option, Outcome, Program, Site, Some, Step, StepsAndWakes, TakesStep, TraceItem}
-use Rattle.zl_calls.proofs.Common.{Woke, ap, asks_again, call_for, call_here, call_of, call_row, calls_at, false, false≢true, fired, fold, get, instr_at}
-use Rattle.zl_calls.proofs.Common.{is_local, is_process, is_ready, is_ready_in, local_effect, map, name_of, next_at, next_for, pid_of, process_entry, refl}
-use Rattle.zl_calls.proofs.Common.{site_of, slice_get, state_passes, step_awake, step_programs, step_sound, subst, sym, takes_memory, then_blocked, true, wakes}
-use Rattle.zl_calls.proofs.Common.{woken, world_blocked, world_left, ℕ, ◌∙◌, ◌≡◌}
+use Rattle.zl_calls.proofs.Common.{List, Machine, Moves, Next, None, Objects, Option, Outcome, Performs, Program, Site, Some, Step, StepsAndWakes, StepsTo}
+use Rattle.zl_calls.proofs.Common.{TakesStep, TraceItem, Woke, ap, asks_again, call_for, call_here, call_of, call_row, calls_at, false, false≢true, fired, fold}
+use Rattle.zl_calls.proofs.Common.{get, instr_at, is_local, is_process, is_ready, is_ready_in, local_effect, map, name_of, next_at, next_for, pid_of}
+use Rattle.zl_calls.proofs.Common.{process_entry, refl, site_of, slice_get, state_passes, step_awake, step_programs, step_sound, subst, sym, takes_memory}
+use Rattle.zl_calls.proofs.Common.{then_blocked, true, wakes, woken, world_blocked, world_left, ℕ, ◌∙◌, ◌≡◌}
 use Rattle.zl_code.proofs.Common.{Acts, World, Process as ProcessValue}
 use Rattle.zl_rights.specs.declared.status.Status.TheVariants as status
 use Rattle.zl_code.specs.declared.history.Outcome.TheVariants as outcome
@@ -66,6 +66,13 @@ module _ (m m2 : Machine) (pid at : ℕ) where
       let step = takes.steps.step in
       subst (λ (k : ℕ). call_for m k ≡ Some name) takes.pid_is
       (stands (item.Call at name o) step ∙ called m.programs m.world step.acted at at name o (next_for m.programs step.process) step.acts)
+
+  pub performs : (name : CallName) (o : Outcome) → TakesStep m pid m2 (item.Call at name o) → Performs m pid o m2
+  performs name o takes = record {
+    call = name;
+    at_call = call_is name o takes;
+    steps = subst (λ (k : ℕ). StepsTo m (item.Call k name o) m2) takes.pid_is takes.steps;
+  }
 
   pub wants_memory : (name : CallName) (o : Outcome) → TakesStep m pid m2 (item.Call at name o) → o ≡ outcome.Answered status.NoMemory
       → IfSome (call_for m pid) (λ call. IsTrue (takes_memory call))

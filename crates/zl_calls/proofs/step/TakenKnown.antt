@@ -3,10 +3,10 @@ use Rattle.zl_calls.proofs.Common.{ActsHere, All, All-append, All-cons, All-cont
 use Rattle.zl_calls.proofs.Common.{CalledAmong, Contains, Does, DoesNext, EndsBy, EndsUnheld, Entry, Err, Handles, IsKnown, IsNoted, IsTrue, KeepsListed}
 use Rattle.zl_calls.proofs.Common.{Library, List, ListsBut, None, NotesNext, Objects, Ok, Option, Outcome, Parts, ProcessCreateDoes, ProcessStartDoes, Request}
 use Rattle.zl_calls.proofs.Common.{Result, Site, Some, Status, Taken, TraceItem, Verdict, WAIT, [], action_asked, acts, and_from, and_parts, ap, arith}
-use Rattle.zl_calls.proofs.Common.{asks_again, calls_at, cases_Bool, chan_write, close, entry_at, false, false≢true, get, handle_operands, handles_in}
-use Rattle.zl_calls.proofs.Common.{has_handle, has_key, has_noted, has_seen, inl, inr, is_empty, is_end, is_left, is_made_by_handle, is_some, is_there}
-use Rattle.zl_calls.proofs.Common.{keeps_handles, kills, kills_itself, looks_at_waits, map, name_of, next_for, none-some, not, parts, port_cancel}
-use Rattle.zl_calls.proofs.Common.{process_entry, process_start, process_value, refl, replace, same_Some, site, slice_get, slice_index_or, starts, subst, sym}
+use Rattle.zl_calls.proofs.Common.{asks_again, calls_at, cases_Bool, chan_write, chan_write_slots, close, entry_at, false, false≢true, get, handle_operands}
+use Rattle.zl_calls.proofs.Common.{handles_in, has_handle, has_key, has_noted, has_seen, inl, inr, is_empty, is_end, is_left, is_made_by_handle, is_some}
+use Rattle.zl_calls.proofs.Common.{is_there, keeps_handles, kills, kills_itself, looks_at_waits, map, name_of, next_for, none-some, not, parts, port_cancel}
+use Rattle.zl_calls.proofs.Common.{process_entry, process_start, process_value, refl, replace, same_Some, slice_get, slice_index_or, starts, subst, sym}
 use Rattle.zl_calls.proofs.Common.{taken_handles, task_kill, then_blocked, true, true≢false, wait_async, waits_after, world_blocked, world_left, world_value, ℕ}
 use Rattle.zl_calls.proofs.Common.{⊤, ◌<◌, ◌∙◌, ◌∷◌, ◌≡◌}
 use Rattle.zl_code.proofs.Common.{Process as ProcessValue, World, Acts}
@@ -27,6 +27,7 @@ use Rattle.zl_calls.proofs.calls.Refused.{is_found}
 use Rattle.zl_calls.proofs.waits.Staying.{all_pass}
 use Rattle.zl_calls.proofs.waits.TakenEnds.{ended_left}
 use Rattle.zl_calls.proofs.waits.WaitsByCall.{acted_lists}
+use Rattle.zl_calls.proofs.calls.Answered.{asking}
 
 -- ---- which waits are listed behind the call
 
@@ -53,6 +54,7 @@ unfolding taken_handles handle_operands
 none_taken (close h) keeps = absurd (false≢true keeps)
 none_taken (replace h asked) keeps = absurd (false≢true keeps)
 none_taken (chan_write end bytes hs) keeps = absurd (false≢true keeps)
+none_taken (chan_write_slots end bytes hs) keeps = absurd (false≢true keeps)
 none_taken (process_start process h word) keeps = absurd (false≢true keeps)
 none_taken _ keeps = refl
 
@@ -102,16 +104,16 @@ module _ {ps : List Process} {r : Objects} {blocked : List ℕ} {pid place : ℕ
     does_all Done wants refusal t t2 (Ok x) does done = done x does.ok
     does_all Done wants refusal t t2 (Err s) does done = same_all (ap (λ (x : Objects). x.waits) does.same_objects)
 
-    looking_all : (request : Request) (consumed destinations : List ℕ) (p2 : Process) → IsFresh request → looks_at_waits request ≡ true
-        → ActsHere (action_asked p.pid request) (site request consumed destinations) p r o p2 all2.objects → All P all2.objects.waits
-    looking_all (wait_async h port word mask) c d p2 fresh looks does = does_all _ _ _ _ _ does.answer does.acts (λ x done.
+    looking_all : (request : Request) (s : Site) (p2 : Process) → IsFresh request → looks_at_waits request ≡ true
+        → ActsHere (action_asked p.pid request) (asking request s) p r o p2 all2.objects → All P all2.objects.waits
+    looking_all (wait_async h port word mask) s p2 fresh looks does = does_all _ _ _ _ _ does.answer does.acts (λ x done.
         subst (All P) (sym (ap (λ (y : Objects). y.waits) done.objects))
         (All-append P r.waits _ before (All-cons P _ [] (fresh refl h done.watched
         (is_found (get p.table.entries h) [] WAIT done.watched done.is_watched) _ refl refl refl) (All-nil P))))
-    looking_all (port_cancel port source word) c d p2 fresh looks does = does_all _ _ _ _ _ does.answer does.acts (λ x done.
+    looking_all (port_cancel port source word) s p2 fresh looks does = does_all _ _ _ _ _ does.answer does.acts (λ x done.
         subst (All P) (sym done.ends.waits) (All-filter _ P r.waits before))
-    looking_all (task_kill task) c d p2 fresh looks does = absurd does
-    looking_all _ c d p2 fresh looks does = absurd (false≢true looks)
+    looking_all (task_kill task) s p2 fresh looks does = absurd does
+    looking_all _ s p2 fresh looks does = absurd (false≢true looks)
 
     by_acts : (name : CallName) (s : Site) → name_of s.request ≡ name → IsFresh s.request → ends_processes name o ≡ false
         → CallActs lib place p s (parts ps r blocked) o all2 → All P all2.objects.waits
@@ -129,7 +131,7 @@ module _ {ps : List Process} {r : Objects} {blocked : List ℕ} {pid place : ℕ
     by_acts name s named fresh plain (reaches none (kills_itself task is does)) =
         absurd (true≢false (ap (λ (q : Request). ends_processes (name_of q) o) (sym is) ∙ (ap (λ (n : CallName). ends_processes n o) named ∙ plain)))
     by_acts name s named fresh plain (acts p2 none alone acted) = elim (cases_Bool (looks_at_waits s.request)) as (λ _. All P all2.objects.waits) [
-      | inl looks ↦ looking_all s.request s.consumed s.destinations p2 fresh looks acted
+      | inl looks ↦ looking_all s.request s p2 fresh looks acted
       | inr blind ↦
           lists_all P (waits_after s.request o pid r.waits) r.waits_made r all2.objects
           (rw (goes_on name o plain) at (acted_lists p p2 r all2.objects pid o name (Some s) (key turn) blind acted)) present

@@ -15,19 +15,21 @@ notes_at i c n entries t is noted =
     by false = tt
 
 -- the calls that take no handle, unless they end their caller
-none_taken : (n : CallName) (i : CallInstr) (c : Cpu) → n ≢ name.Close → n ≢ name.Replace → n ≢ name.ChanWrite → n ≢ name.ProcessStart
-    → taken_handles (site_at n i c).request ≡ []
+none_taken : (n : CallName) (i : CallInstr) (c : Cpu) → n ≢ name.Close → n ≢ name.Replace → n ≢ name.ChanWrite → n ≢ name.ChanWriteSlots
+    → n ≢ name.ProcessStart → taken_handles (site_at n i c).request ≡ []
 unfolding taken_handles handle_operands
-none_taken name.Close i c close replace write start = absurd (close refl)
-none_taken name.Replace i c close replace write start = absurd (replace refl)
-none_taken name.ChanWrite i c close replace write start = absurd (write refl)
-none_taken name.ProcessStart i c close replace write start = absurd (start refl)
-none_taken _ i c close replace write start = refl
+none_taken name.Close i c close replace write slots start = absurd (close refl)
+none_taken name.Replace i c close replace write slots start = absurd (replace refl)
+none_taken name.ChanWrite i c close replace write slots start = absurd (write refl)
+none_taken name.ChanWriteSlots i c close replace write slots start = absurd (slots refl)
+none_taken name.ProcessStart i c close replace write slots start = absurd (start refl)
+none_taken _ i c close replace write slots start = refl
 
 pub notes_none : (i : CallInstr) (c : Cpu) (entries : Map Entry) (t : Taken) → i.name ≢ name.Close → i.name ≢ name.Replace → i.name ≢ name.ChanWrite
-    → i.name ≢ name.ProcessStart → NotesFor (site_of i c) entries t
-notes_none i c entries t close replace write start =
-    notes_at i c i.name entries t refl (subst (All (IsNoted entries t)) (sym (none_taken i.name i c close replace write start)) (All-nil (IsNoted entries t)))
+    → i.name ≢ name.ChanWriteSlots → i.name ≢ name.ProcessStart → NotesFor (site_of i c) entries t
+notes_none i c entries t close replace write slots start =
+    notes_at i c i.name entries t refl
+    (subst (All (IsNoted entries t)) (sym (none_taken i.name i c close replace write slots start)) (All-nil (IsNoted entries t)))
 
 -- what is noted stays so
 pub more_noted : (entries : Map Entry) (t t2 : Taken) (v : ℕ) → ((n k : ℕ) → IsTrue (has_noted t n k) → IsTrue (has_noted t2 n k)) → IsNoted entries t v

@@ -2,12 +2,12 @@
 -- objects and ports alone.
 use Rattle.zl_calls.proofs.Common.{Acted, ActsHere, Bool, CallName, ChanReadDoes, ChanWriteDoes, Does, Entry, Err, Handles, IsRefusedBy, KeepSleepers, List}
 use Rattle.zl_calls.proofs.Common.{ListsBut, ListsWithout, MakesOne, MakesPair, None, Objects, Ok, Option, Outcome, Pair, ReadFault, Received, ReplaceDoes}
-use Rattle.zl_calls.proofs.Common.{Request, Result, Site, Some, Status, Wait, action_asked, ap, calls_at, chan_create, chan_read_etc, chan_write, close, dup}
-use Rattle.zl_calls.proofs.Common.{event_create, eventpair_create, false, false≢true, filter, get, inl, inr, is_empty, is_end, job_create, job_set_policy}
-use Rattle.zl_calls.proofs.Common.{keeps_handles, looks_at_waits, name_of, narrowed, next_looks, port_cancel, port_create, port_poll, port_queue, port_wait}
-use Rattle.zl_calls.proofs.Common.{process_exit, process_start, refl, replace, replace_refusal_of, signal, signal_peer, site, status_of, subst, sym, task_kill}
-use Rattle.zl_calls.proofs.Common.{then_some, true, true≢false, update, wait_async, wait_one, wait_poll, waits_after, waits_by, wants_nothing, with_new}
-use Rattle.zl_calls.proofs.Common.{with_rights, ℕ, ⊤, ◌&&◌, ◌==◌, ◌∙◌, ◌≡◌}
+use Rattle.zl_calls.proofs.Common.{Request, Result, Site, Some, Status, Wait, action_asked, ap, calls_at, chan_create, chan_read_etc, chan_read_slots}
+use Rattle.zl_calls.proofs.Common.{chan_write, chan_write_slots, close, dup, event_create, eventpair_create, false, false≢true, filter, get, handle_info, inl}
+use Rattle.zl_calls.proofs.Common.{inr, is_empty, is_end, job_create, job_set_policy, keeps_handles, looks_at_waits, name_of, narrowed, next_looks, port_cancel}
+use Rattle.zl_calls.proofs.Common.{port_create, port_poll, port_queue, port_wait, process_exit, process_start, refl, replace, replace_refusal_of, signal}
+use Rattle.zl_calls.proofs.Common.{signal_peer, status_of, subst, sym, task_kill, then_some, true, true≢false, update, wait_async, wait_one, wait_poll}
+use Rattle.zl_calls.proofs.Common.{waits_after, waits_by, wants_nothing, with_new, with_rights, ℕ, ⊤, ◌&&◌, ◌==◌, ◌∙◌, ◌≡◌}
 use Rattle.zl_code.specs.declared.history.Outcome.TheVariants as outcome
 use Rattle.zl_code.specs.declared.history.TraceItem.TheVariants as item
 use Rattle.zl_rights.specs.declared.status.Status.TheVariants as status
@@ -17,6 +17,7 @@ use Rattle.zl_objects.specs.declared.object.Object.{Object}
 use Rattle.zl_calls.specs.declared.process.Process.{Process}
 use Rattle.zl_calls.proofs.calls.Refused.{nothing_wanted}
 use Rattle.zl_calls.proofs.waits.WaitsLost.{lists_wide}
+use Rattle.zl_calls.proofs.calls.Answered.{asking}
 
 -- a refusal of replace isn't OK
 refused_replace : (e : Option Entry) (h asked pid : ℕ) (ws : List Wait) (s : Status) → IsRefusedBy wants_nothing (replace_refusal_of asked e) s
@@ -64,23 +65,26 @@ module _ (p p2 : Process) (r r2 : Objects) where
   does_stay Done wants refusal (Ok x) does done = done x does.ok
   does_stay Done wants refusal (Err s) does done = unchanged does.same_objects
 
-  module _ (o : Outcome) (consumed destinations : List ℕ) where
+  read_stays : (h room places : ℕ) (answer : Result Received ReadFault) → ChanReadDoes h room places p.table r answer p2.table r2 → Stays r r2
+  read_stays h room places (Ok x) does = changed _ _ does.ok.objects
+  read_stays h room places (Err s) does = unchanged does.same_objects
+
+  module _ (o : Outcome) (s : Site) where
     abbrev ActsSo : Request → Type 0
-    ActsSo request = ActsHere (action_asked p.pid request) (site request consumed destinations) p r o p2 r2
+    ActsSo request = ActsHere (action_asked p.pid request) (asking request s) p r o p2 r2
 
     pub request_stays : (request : Request) → keeps_handles (name_of request) ≡ true → looks_at_waits request ≡ false → ActsSo request → Stays r r2
     request_stays (close h) keeps plain acts = absurd (false≢true keeps)
     request_stays (replace h asked) keeps plain acts = absurd (false≢true keeps)
     request_stays (chan_write end bytes hs) keeps plain acts = absurd (false≢true keeps)
+    request_stays (chan_write_slots end bytes hs) keeps plain acts = absurd (false≢true keeps)
     request_stays (process_exit code) keeps plain acts = absurd (false≢true keeps)
     request_stays (dup h asked) keeps plain acts = does_stay _ _ _ acts.answer acts.acts (λ x done. changed _ _ done.objects)
     request_stays chan_create keeps plain acts = does_stay _ _ _ acts.answer acts.acts (pair_made _)
     request_stays eventpair_create keeps plain acts = does_stay _ _ _ acts.answer acts.acts (pair_made _)
-    request_stays (chan_read_etc h address room places) keeps plain acts = read acts.answer acts.acts
-      where
-        read : (answer : Result Received ReadFault) → ChanReadDoes h room places p.table r answer p2.table r2 → Stays r r2
-        read (Ok x) does = changed _ _ does.ok.objects
-        read (Err s) does = unchanged does.same_objects
+    request_stays (chan_read_etc h address room places) keeps plain acts = read_stays h room places acts.answer acts.acts
+    request_stays (chan_read_slots h address room array places) keeps plain acts = read_stays h room places acts.answer acts.acts
+    request_stays (handle_info h) keeps plain acts = unchanged acts.acts.objects
     request_stays event_create keeps plain acts = does_stay _ _ _ acts.answer acts.acts (one_made _)
     request_stays port_create keeps plain acts = does_stay _ _ _ acts.answer acts.acts (one_made _)
     request_stays (job_create j) keeps plain acts = does_stay _ _ _ acts.answer acts.acts (λ x done. one_made _ x done.makes)
@@ -110,6 +114,13 @@ module _ (p p2 : Process) (r r2 : Objects) where
     kept : ListsBut r.waits r.waits_made r r2 → ListsWithout (λ k. is_end o && (k == p.pid)) r.waits r.waits_made r r2
     kept = lists_wide (λ k ends. absurd (false≢true ends)) r.waits r.waits_made r r2
 
+    written : (end : ℕ) (bytes hs : List ℕ) (answer : Result ⊤ Status) → ChanWriteDoes end bytes hs p.table r answer p2.table r2
+        → Listed (chan_write end bytes hs)
+    written end bytes hs (Ok done) does =
+        lists (ap (λ (y : Objects). y.waits) does.ok.objects) (ap (λ (y : Objects). y.waits_made) does.ok.objects)
+        (subst (KeepSleepers r) (sym does.ok.objects) (refl, refl))
+    written end bytes hs (Err s) does = kept does.closed.listed.listed
+
     by_request : (request : Request) → looks_at_waits request ≡ false → ActsSo request → Listed request
     by_request (close h) plain acts = kept acts.acts.listed.listed
     by_request (replace h asked) plain acts = replaced acts.answer acts.ends acts.acts
@@ -122,13 +133,8 @@ module _ (p p2 : Process) (r r2 : Objects) where
           asleep = does.ok.ends.asleep;
         })
         replaced (Err s) ends does = rw (ends, refused_replace (get p.table.entries h) h asked p.pid r.waits s does.err) does.closed.listed.listed
-    by_request (chan_write end bytes hs) plain acts = written acts.answer acts.acts
-      where
-        written : (answer : Result ⊤ Status) → ChanWriteDoes end bytes hs p.table r answer p2.table r2 → Listed (chan_write end bytes hs)
-        written (Ok done) does =
-            lists (ap (λ (y : Objects). y.waits) does.ok.objects) (ap (λ (y : Objects). y.waits_made) does.ok.objects)
-            (subst (KeepSleepers r) (sym does.ok.objects) (refl, refl))
-        written (Err s) does = kept does.closed.listed.listed
+    by_request (chan_write end bytes hs) plain acts = written end bytes hs acts.answer acts.acts
+    by_request (chan_write_slots end bytes hs) plain acts = written end bytes hs acts.answer acts.acts
     by_request (process_exit code) plain acts = rw acts.ends (acts.over.waits.keeps.listed)
     by_request (wait_async h port key mask) plain acts = absurd (true≢false plain)
     by_request (port_cancel port source key) plain acts = absurd (true≢false plain)
@@ -143,4 +149,4 @@ pub acted_lists : (p p2 : Process) (r r2 : Objects) (pid : ℕ) (o : Outcome) (n
     → next_looks (calls_at name at) ≡ false → Acted at p r o p2 r2
     → ListsWithout (λ k. is_end o && (k == pid)) (waits_by (calls_at name at) (item.Call pid name o) r.waits) r.waits_made r r2
 acted_lists p p2 r r2 pid o name None same plain acts = absurd acts
-acted_lists p p2 r r2 pid o name (Some s) same plain acts = rw (← same) (by_request p p2 r r2 o s.consumed s.destinations s.request plain acts)
+acted_lists p p2 r r2 pid o name (Some s) same plain acts = rw (← same) (by_request p p2 r r2 o s s.request plain acts)

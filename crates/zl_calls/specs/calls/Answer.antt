@@ -1,6 +1,7 @@
 -- How a call is refused and answered, which is alike for all calls. No public clause cites this module.
 use Rattle.zl_code.specs.Common.{Blocked, Cpu, Map, get, has_key, without, answered, Site, cpu_answered}
 use Rattle.zl_code.specs.Calls.{wanted}
+use Rattle.zl_code.specs.Effects.{slots_filled}
 use Rattle.zl_code.specs.Local.{overwritten}
 use Rattle.std.specs.Option.{option_to_list}
 use Rattle.std.specs.Prelude.{ℕ, ℤ, ◌≡◌, ◌+◌, ◌<◌, ◌^◌, Bool, true, false, nat_le, List, [], ◌∷◌, ◌++◌, if◌then◌else◌, length, Option, Some, None, Result, Ok, Err, ⊤, IfOk, IfErr, IsTrue, OnErr}
@@ -88,24 +89,34 @@ values_of values (Err s) = []
 abbrev pub Replies : Site → Status → List ℕ → Process → Process → Type 0
 Replies s answer values old new = new ≡ record old { cpu = cpu_answered s answer values old.cpu; table = new.table }
 
--- what the caller of a call is told: the status, the values behind it, and the bytes that it finds in its memory from the address on
+-- what the caller of a call is told: the status, the values behind it, the bytes that it finds in its memory from the address on, and the values in a slot array
 pub record Told : Type 0 where
   pub status : Status
   pub values : List ℕ
   pub stored : ℕ × List ℕ
+  pub kept : Option (ℕ × List ℕ)
 
--- values, where the call isn't refused, and no bytes
+-- values, where the call isn't refused, and nothing in memory or slots
 abbrev pub told_by : {A : Type 0} → (A → List ℕ) → Result A Status → Told
-told_by values answer = record { status = status_of answer; values = values_of values answer; stored = (0, []) }
+told_by values answer = record { status = status_of answer; values = values_of values answer; stored = (0, []); kept = None }
 
 -- the Cpu with these bytes in its memory
 abbrev pub with_stored : ℕ × List ℕ → Cpu → Cpu
 with_stored (address, []) c = c
 with_stored (address, b ∷ bytes) c = record c { memory = overwritten c.memory address (b ∷ bytes) }
 
--- the process has what it is told in its memory, and in the registers of the site; its table is that of new
+-- the Cpu with these values in a slot array, if one is named
+abbrev pub with_kept : Option (ℕ × List ℕ) → Cpu → Cpu
+with_kept None c = c
+with_kept (Some x) c = record c { slots = slots_filled c.slots (Some x) }
+
+-- the Cpu with all that is told outside of registers
+abbrev pub with_told : Told → Cpu → Cpu
+with_told told c = with_kept told.kept (with_stored told.stored c)
+
+-- the process has what it is told in its memory, its slots and the registers of the site; its table is that of new
 abbrev pub IsTold : Site → Told → Process → Process → Type 0
-IsTold s told old new = new ≡ record old { cpu = cpu_answered s told.status told.values (with_stored told.stored old.cpu); table = new.table }
+IsTold s told old new = new ≡ record old { cpu = cpu_answered s told.status told.values (with_told told old.cpu); table = new.table }
 
 -- a call is answered: so it changes the table of its caller and the objects, and tells so much
 pub record IsAnswered {A : Type 0} (told : A → Told) (Acts : Handles → Objects → A → Handles → Objects → Type 0) (s : Site) (p : Process) (r : Objects) (o : Outcome) (p2 : Process) (r2 : Objects) : Type 0 where

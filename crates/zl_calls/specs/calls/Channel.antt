@@ -1,5 +1,6 @@
--- What calls on channels do: chan_create, chan_write and chan_read_etc. No public clause cites this module.
-use Rattle.std.specs.Prelude.{ℕ, ◌≡◌, ◌≤◌, ◌||◌, not, nat_lt, [], ◌∷◌, ◌++◌, List, length, Option, Some, None, Result, Ok, Err, ⊤, if◌then◌else◌, is_some, IsTrue}
+-- What the calls on channels do that read nothing: chan_create, chan_write and chan_write_slots. No public clause cites this module.
+use Rattle.std.specs.Prelude.{ℕ, ◌≡◌, ◌≤◌, ◌||◌, ◌==◌, not, nat_lt, [], ◌∷◌, ◌++◌, List, length, Option, Some, None, Result, Ok, Err, ⊤, if◌then◌else◌, is_some, IsTrue}
+use Rattle.std.specs.List.{filter}
 use Rattle.std.specs.Option.{option_or}
 use Rattle.std.specs.Bool.{then_some}
 use Rattle.zl_code.specs.Common.{Map}
@@ -26,7 +27,11 @@ use Rattle.zl_calls.specs.calls.Making.{MakePairDoes}
 abbrev pub ChanCreateDoes : Handles → Objects → Result (ℕ × ℕ) Status → Handles → Objects → Type 0
 ChanCreateDoes = MakePairDoes pair.Channel
 
--- ---- chan_write
+-- ---- chan_write, and chan_write_slots
+
+-- the handles in these places: the values that aren't 0
+abbrev pub filled : List ℕ → List ℕ
+filled places = filter (λ v. not (v == 0)) places
 
 -- the fault of a look-up, if it has one
 abbrev pub fault_of : {A : Type 0} → Result A Status → Option Status

@@ -1,5 +1,5 @@
--- What calls on handles do: close, dup and replace. No public clause cites this module.
-use Rattle.std.specs.Prelude.{ℕ, ◌≡◌, ◌<◌, IsTrue, ◌||◌, not, [], ◌∷◌, length, Option, Some, None, Result, ⊤, ◌==◌, if◌then◌else◌}
+-- What calls on handles do: close, dup, replace and handle_info. No public clause cites this module.
+use Rattle.std.specs.Prelude.{ℕ, ◌≡◌, ◌<◌, IsTrue, ◌||◌, not, List, [], ◌∷◌, length, Option, Some, None, Result, ⊤, ◌==◌, if◌then◌else◌}
 use Rattle.std.specs.Bool.{then_some}
 use Rattle.std.specs.Option.{option_or}
 use Rattle.zl_code.specs.Common.{bits, within, narrowed, DUPLICATE, Map, get, has_key, update, is_empty, with_rights}
@@ -7,12 +7,14 @@ use Rattle.zl_rights.specs.declared.status.Status.{Status}
 use Rattle.zl_rights.specs.declared.status.Status.TheVariants as status
 use Rattle.zl_rights.specs.declared.entry.Entry.{Entry}
 use Rattle.zl_rights.specs.declared.rights.Rights.{Rights}
+use Rattle.zl_rights.specs.LookUp.{looked_up}
 use Rattle.zl_table.specs.Table.{Handles, Inserts}
 use Rattle.zl_objects.specs.declared.object.Object.{Object}
 use Rattle.zl_objects.specs.Objects.{Objects, has_place, holding}
 use Rattle.zl_objects.specs.Release.{Releases}
 use Rattle.zl_calls.specs.calls.Answer.{Does, DoesTaking, has_room_in, status_of, wants_nothing, wants_memory, without_handle}
 use Rattle.zl_calls.specs.Registered.{EndsWaits, KeepsListed}
+use Rattle.zl_code.specs.Tests.{info_of}
 use Rattle.zl_code.specs.Waiting.{is_by_handle}
 
 -- ---- close
@@ -90,3 +92,15 @@ pub record Replaces (pid : ℕ) (t : Handles) (r : Objects) (value asked made : 
 -- replace of the handle at the value, with these rights asked for; where it is refused the handle closes
 abbrev pub ReplaceDoes : (pid value asked : ℕ) → Handles → Objects → Result ℕ Status → Handles → Objects → Type 0
 ReplaceDoes pid value asked t r = DoesTaking (Replaces pid t r value asked) wants_nothing (replace_refusal t.entries value asked) (value ∷ []) t r
+
+-- ---- handle_info
+
+-- handle_info of the handle at the value, which needs no right; it changes nothing
+pub record HandleInfoDoes (value : ℕ) (t : Handles) (r : Objects) (answer : Result Entry Status) (t2 : Handles) (r2 : Objects) : Type 0 where
+  pub answered : answer ≡ looked_up t.entries value [] 0
+  pub table : t2 ≡ t
+  pub objects : r2 ≡ r
+
+-- what it gives behind the status: the kind and the rights
+abbrev pub info_values : Entry → List ℕ
+info_values e = info_of (Some e)

@@ -1,5 +1,5 @@
--- What chan_read_etc does. No public clause cites this module.
-use Rattle.std.specs.Prelude.{ℕ, ◌≡◌, ◌+◌, Bool, not, nat_le, List, [], ◌∷◌, ◌++◌, length, Option, Some, Result, Ok, Err, IfOk, IfErr, IsTrue}
+-- What chan_read_etc and chan_read_slots do. No public clause cites this module.
+use Rattle.std.specs.Prelude.{ℕ, ◌≡◌, ◌+◌, Bool, not, nat_le, List, [], ◌∷◌, ◌++◌, length, Option, Some, None, Result, Ok, Err, IfOk, IfErr, IsTrue}
 use Rattle.std.specs.Prelude.{OnErr, if◌then◌else◌, is_some, slice_get, slice_index}
 use Rattle.zl_code.specs.Common.{Map, get}
 use Rattle.zl_code.specs.Asked.{triples_from}
@@ -64,7 +64,7 @@ front_by entries objects room places (Ok end) =
 abbrev pub front_at : Map Entry → Map Object → (channel room places : ℕ) → Result ℕ ReadFault
 front_at entries objects channel room places = front_by entries objects room places (looked_up entries channel (kind.Channel ∷ []) READ)
 
--- ---- chan_read_etc
+-- ---- the message is read
 
 -- the fault is this one; where a message can be read, it is the want of memory
 abbrev pub IsFaultBy : Map Object → Result ℕ ReadFault → ReadFault → Type 0
@@ -80,22 +80,29 @@ pub record ReadsMessage (t : Handles) (r : Objects) (channel room places : ℕ) 
   pub inserts : InsertsEach t received.message.handles received.values.items t2
   pub objects : r2 ≡ receiving r end
 
--- chan_read_etc from the end at the value channel: the message is read, or it stays and nothing changes
+-- a call that reads from the end at the value channel: the message is read, or it stays and nothing changes
 pub record ChanReadDoes (channel room places : ℕ) (t : Handles) (r : Objects) (answer : Result Received ReadFault) (t2 : Handles) (r2 : Objects) : Type 0 where
   pub ok : IfOk answer (λ received. ReadsMessage t r channel room places received t2 r2)
   pub err : IfErr answer (IsFaultBy r.objects (front_at t.entries r.objects channel room places))
   pub same_table : OnErr answer (t2 ≡ t)
   pub same_objects : OnErr answer (r2 ≡ r)
 
--- the caller is told both sizes of the message, of each handle its value, kind and rights, and the bytes from the address on; of one that is too large the sizes
+-- of a message that is too large the caller is told both sizes
+abbrev pub told_unread : ReadFault → Told
+told_unread (fault.TooSmall bytes handles) = record { status = status.BufferTooSmall; values = bytes ∷ handles ∷ []; stored = (0, []); kept = None }
+told_unread (fault.Refused s) = record { status = s; values = []; stored = (0, []); kept = None }
+
+-- ---- chan_read_etc
+
+-- the caller is told both sizes of the message, of each handle its value, kind and rights, and the bytes from the address on
 abbrev pub told_read : ℕ → Result Received ReadFault → Told
 told_read address (Ok received) = record {
   status = status.Ok;
   values = sizes_of (received.message ∷ []) ++ told_of received.message.handles received.values.items;
   stored = (address, received.message.bytes);
+  kept = None;
 }
-told_read address (Err (fault.TooSmall bytes handles)) = record { status = status.BufferTooSmall; values = bytes ∷ handles ∷ []; stored = (0, []) }
-told_read address (Err (fault.Refused s)) = record { status = s; values = []; stored = (0, []) }
+told_read address (Err f) = told_unread f
 
 -- what a reader is told of the handle in one place and its value in another; zeros where there is none
 abbrev pub triple_of : Option Entry → Option ℕ → List ℕ
@@ -107,3 +114,19 @@ abbrev pub read_into : CallInstr → List ℕ
 read_into i =
     slice_index i.registers 0 ∷ slice_index i.registers 4 ∷ slice_index i.registers 5
     ∷ triples_from (slice_index i.registers 6) (number_at i.last 0 4)
+
+-- ---- chan_read_slots
+
+-- the caller is told both sizes of the message, the bytes from the address on, and in the slot array the value of each handle
+abbrev pub told_slots : (address array : ℕ) → Result Received ReadFault → Told
+told_slots address array (Ok received) = record {
+  status = status.Ok;
+  values = sizes_of (received.message ∷ []);
+  stored = (address, received.message.bytes);
+  kept = Some (array, received.values.items);
+}
+told_slots address array (Err f) = told_unread f
+
+-- the registers of its answer: the status and both sizes
+abbrev pub sizes_into : CallInstr → List ℕ
+sizes_into i = slice_index i.registers 0 ∷ slice_index i.registers 4 ∷ slice_index i.registers 5 ∷ []

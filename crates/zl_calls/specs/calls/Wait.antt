@@ -1,5 +1,5 @@
 -- What calls do that look at signals: wait_one and wait_poll. No public clause cites this module.
-use Rattle.std.specs.Prelude.{ℕ, ◌≡◌, Bool, true, false, List, [], ◌∷◌, Result, Ok, Err, if◌then◌else◌}
+use Rattle.std.specs.Prelude.{ℕ, ◌≡◌, Bool, true, false, List, [], ◌∷◌, None, Result, Ok, Err, if◌then◌else◌}
 use Rattle.std.specs.Result.{result_err}
 use Rattle.zl_code.specs.Common.{Map}
 use Rattle.zl_code.specs.Waiting.{is_mask}
@@ -91,4 +91,4 @@ polled_values (Err (fault.Refused s)) = []
 
 -- what the caller is told: the status, and behind it the active signals
 abbrev pub told_polled : Result Signals PollFault → Told
-told_polled answer = record { status = polled_status answer; values = polled_values answer; stored = (0, []) }
+told_polled answer = record { status = polled_status answer; values = polled_values answer; stored = (0, []); kept = None }

@@ -131,6 +131,19 @@ pub fn replace<const TESTED: bool>(
     }
 }
 
+/// The handle at the value, of which its kind and its rights are told. It may be of any kind, and
+/// needs no right.
+///
+/// `BadHandle`. It takes no memory.
+/// Source: the page "zx_object_get_info" of the Fuchsia documentation, of which the topic
+/// ZX_INFO_HANDLE_BASIC has both; that no right is needed is own profile.
+pub fn handle_info<const TESTED: bool>(table: &Table, value: u64) -> Result<Entry, Status>
+    requires sure { TESTED ≡ false → IsOk (looked_up table.now.entries value [] 0) }
+    ensures { result ≡ looked_up table.now.entries value [] 0 }
+{
+    look_up::<TESTED>(table, value, &[], Rights::NONE)
+}
+
 /// The value and its handle, if it is live; it is where that isn't tested.
 pub(crate) fn live_at<const TESTED: bool>(table: &Table, value: u64) -> Option<(HValue, Entry)>
     requires sure { TESTED ≡ false → IsTrue (has_key table.now.entries value) }

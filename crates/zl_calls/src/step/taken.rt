@@ -10,6 +10,7 @@ ghost use Rattle.zl_code.specs.Local.{reg};
 ghost use Rattle.zl_calls.specs.Started.{if_started, is_ok, is_start, tells_start, with_started};
 ghost use Rattle.zl_calls.specs.Taken.{IsNoted, NotesFor, has_noted};
 
+use crate::calls::channel::writing::sent_places;
 use crate::calls::handle::live_at;
 use crate::process::Process;
 use crate::waking::Woke;
@@ -27,8 +28,8 @@ pub struct TakenHandle {
 }
 
 /// Handles of the caller, of the last call behind which they were asked for. There is room for as
-/// many as a call can list; should there be none for one more, each counts as noted. Beside them the
-/// process that the last `process_start` named, or 0.
+/// many as a call can list in registers; those in places may be more, and where there is no memory for
+/// one more, each counts as noted. Beside them the process that the last `process_start` named, or 0.
 #[derive(Drop)]
 pub struct Taken {
     pub handles: SmallVec<TakenHandle, 8>,
@@ -91,6 +92,9 @@ impl Taken {
             CallName::ChanWrite => {
                 let (values, count) = process.cpu.listed(&call.handles());
                 self.note_each(&process.table, &values[..count]);
+            }
+            CallName::ChanWriteSlots => {
+                self.note_each(&process.table, sent_places(&process.cpu, call));
             }
             _ => {}
         }

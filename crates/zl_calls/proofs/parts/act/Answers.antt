@@ -96,3 +96,9 @@ unfolding handle_operands operands_fault
 job_set_policy-answer-requires g c =
     let value : c.reg-in-JobSetPolicy.result ≡ reg c.args.process.now.cpu (slice_index c.args.call.now.registers 1) = grind (arith, common_steps) in
     record { sure = λ no. rw value (finds _ None (faultless_at _ _ name.JobSetPolicy _ c.in-JobSetPolicy.is c.requires.there (c.requires.sure no))) }
+
+pub handle_info-told-requires : goal.handle_info-told-requires
+unfolding handle_operands operands_fault
+handle_info-told-requires g c =
+    let value : c.reg-in-HandleInfo.result ≡ reg c.args.process.now.cpu (slice_index c.args.call.now.registers 1) = grind (arith, common_steps) in
+    record { sure = λ no. rw value (finds _ None (faultless_at _ _ name.HandleInfo _ c.in-HandleInfo.is c.requires.there (c.requires.sure no))) }

@@ -1,4 +1,4 @@
-//! The call that reads a message: what it does, and what it then writes of its caller.
+//! The calls that read a message: what they do, and what they then write of their caller.
 
 ghost use Rattle.std.specs.Prelude.{◌≡◌, ◌+◌, ◌<◌, ◌≤◌, ◌^◌, [], ◌∷◌, if◌then◌else◌, is_some, length, nat_lt, slice_get, true, false, IsSome, IsTrue, IfOk, IfErr, IsOk, OnErr};
 ghost use Rattle.zl_rights.specs.LookUp.{looked_up};
@@ -21,7 +21,7 @@ use smallvec::SmallVec;
 use std::alloc::Global;
 use zl_channel::Message;
 use zl_code::{CallInstr, Outcome, Register};
-use zl_interp::Cpu;
+use zl_interp::{Cpu, room_for_handles};
 use zl_objects::Objects;
 use zl_rights::{Entry, HValue, Kind, Koid, Rights, Status};
 use zl_table::Table;
@@ -252,5 +252,49 @@ pub fn read<const TESTED: bool>(
             process.answer_read(call, Status::BufferTooSmall, bytes, handles, &[], &[])
         }
         Err(ReadFault::Refused(status)) => { process.answer_read(call, status, 0, 0, &[], &[]) }
+    }
+}
+
+/// Does `chan_read_slots` at its registers. Its room lies in the memory, and its slot array is there:
+/// the values of the handles go to the places in front, of which there are enough that are 0.
+#[tactic(auto, unfolding(zl_code::specs::Request::site_of, zl_rights::specs::World::answered))]
+pub fn read_slots<const TESTED: bool>(
+    alloc: Global,
+    process: &mut Process,
+    objects: &mut Objects,
+    call: &CallInstr,
+) -> Outcome
+    requires counter { process.old.cpu.counter < 2 ^ 32 }
+    requires name { call.now.name ≡ name.ChanReadSlots }
+    requires there { IsSome (site_of call.now process.old.cpu) }
+    requires sure { TESTED ≡ false
+        → IsFaultless process.old.table.entries (site_of call.now process.old.cpu) }
+    ensures { Acted (site_of call.now process.old.cpu)
+        process.old objects.old result process.new objects.new }
+{
+    let [status, channel, address, room, size, count, _] = call.registers;
+    let array = call.number();
+    let Some(slots) = process.cpu.places(array) else {
+        unreachable!()
+    };
+    let places = room_for_handles(slots) as u32;
+    let address = process.cpu.register(address);
+    let room = process.cpu.register(room);
+    let channel = process.cpu.register(channel);
+    let to = [status, size, count];
+    match chan_read_etc::<TESTED>(alloc, &mut process.table, objects, channel, room, places) {
+        Ok(received) => {
+            let bytes = &received.message.bytes;
+            process.cpu.store(address, bytes);
+            let values = received.values.as_slice();
+            process.cpu.fill_places(array, values);
+            let handles = received.message.handles.as_slice();
+            let sizes = [bytes.len() as u64, handles.len() as u64];
+            process.answered(Status::Ok, &to, &sizes)
+        }
+        Err(ReadFault::TooSmall { bytes, handles }) => {
+            process.answered(Status::BufferTooSmall, &to, &[bytes as u64, handles as u64])
+        }
+        Err(ReadFault::Refused(status)) => process.answered(status, &to, &[]),
     }
 }

@@ -1,4 +1,4 @@
-//! The call that writes a message: what it does, and what it then answers its caller.
+//! The calls that write a message: what they do, and what they then answer their caller.
 
 ghost use Rattle.std.specs.Prelude.{◌≡◌, ◌<◌, ◌≤◌, ◌^◌, ◌++◌, [], ◌∷◌, true, false, None, length, IsTrue, IsSome, IfOk, IfErr, IsOk, OnOk, OnErr};
 ghost use Rattle.std.specs.Option.{option_to_list};
@@ -7,13 +7,14 @@ ghost use Rattle.zl_rights.specs.Map.{get};
 ghost use Rattle.zl_rights.specs.Numbers.{WRITE};
 ghost use Rattle.smallvec.specs.SmallVec.{HasRoomFor};
 ghost use Rattle.zl_channel.specs.Queue.{MOST_BYTES, MOST_HANDLES};
+ghost use Rattle.zl_code.specs.Asked.{array_in, emptied_count, filled_among};
 ghost use Rattle.zl_code.specs.Request.{site_of};
 ghost use Rattle.zl_code.specs.declared.history.CallName.TheVariants as name;
 ghost use Rattle.zl_objects.specs.Objects.{is_channel_at, sending};
 ghost use Rattle.zl_objects.specs.Release.{Releases, koids_in};
 ghost use Rattle.zl_calls.specs.Acted.{Acted};
 ghost use Rattle.zl_calls.specs.calls.Answer.{IsRefusedBy, taken_from, wants_memory, without_handle, without_handles};
-ghost use Rattle.zl_calls.specs.calls.Channel.{ChanWriteDoes, IsPeerOf, IsReady, fault_of, list_refusal, write_refusal};
+ghost use Rattle.zl_calls.specs.calls.Channel.{ChanWriteDoes, IsPeerOf, IsReady, fault_of, filled, list_refusal, write_refusal};
 ghost use Rattle.zl_calls.specs.Registered.{KeepsListed};
 ghost use Rattle.zl_calls.specs.Sure.{IsFaultless};
 
@@ -23,6 +24,7 @@ use crate::process::Process;
 use std::alloc::Global;
 use zl_channel::{ChannelEnd, Handles, Message, PushFault};
 use zl_code::{CallInstr, Outcome};
+use zl_interp::Cpu;
 use zl_objects::Objects;
 use zl_rights::{Entry, Kind, Koid, Rights, Status};
 use zl_table::Table;
@@ -93,6 +95,62 @@ pub fn write<const TESTED: bool>(
     );
     process.cpu.clear(&handles);
     process.answer(status, answer)
+}
+
+/// Does `chan_write_slots` at its registers, as `chan_write`: the handles are those in the first places
+/// of a slot array, and these places are 0 afterwards. Its bytes lie in the memory, and the array has
+/// the places.
+pub fn write_slots<const TESTED: bool>(
+    alloc: Global,
+    process: &mut Process,
+    objects: &mut Objects,
+    call: &CallInstr,
+) -> Outcome
+    requires counter { process.old.cpu.counter < 2 ^ 32 }
+    requires name { call.now.name ≡ name.ChanWriteSlots }
+    requires there { IsSome (site_of call.now process.old.cpu) }
+    requires sure { TESTED ≡ false
+        → IsFaultless process.old.table.entries (site_of call.now process.old.cpu) }
+    ensures { Acted (site_of call.now process.old.cpu)
+        process.old objects.old result process.new objects.new }
+{
+    let [status, channel, address, size, count, ..] = call.registers;
+    let channel = process.cpu.register(channel);
+    let address = process.cpu.register(address);
+    let size = process.cpu.register(size);
+    let count = process.cpu.register(count) as usize;
+    let array = call.number();
+    // Until they are emptied, the places may hold the same values closer together.
+    let filled = process.cpu.pack_places(array, count);
+    let Some(bytes) = process.cpu.bytes(address, size) else {
+        unreachable!()
+    };
+    let Some(places) = process.cpu.places(array) else {
+        unreachable!()
+    };
+    let answer = chan_write::<TESTED>(
+        alloc,
+        &mut process.table,
+        objects,
+        channel,
+        bytes,
+        &places[..filled],
+    );
+    process.cpu.empty_places(array, count);
+    process.answer(status, answer)
+}
+
+/// The places whose handles the call sends, as far as they are there.
+pub fn sent_places<'a>(cpu: &'a Cpu, call: &CallInstr) -> &'a [u64]
+    ensures { filled result.now
+        ≡ filled_among (emptied_count call.now cpu.now) (array_in call.now cpu.now) }
+{
+    let [_, _, _, _, count, ..] = call.registers;
+    let Some(places) = cpu.places(call.number()) else {
+        return &[];
+    };
+    let count = cpu.register(count) as usize;
+    &places[..count.min(places.len())]
 }
 
 /// A message that is written: the end to whose queue it goes, its bytes, and room for its handles.
@@ -178,6 +236,22 @@ pub fn examine_list(table: &Table, handles: &[u64]) -> Result<(), Status>
 {
     for (n, handle) in handles.iter().enumerate() {
         if handles[..n].contains(handle) {
+            return Err(Status::BadHandle);
+        }
+        look_up::<true>(table, *handle, &[], Rights::TRANSFER)?;
+    }
+    Ok(())
+}
+
+/// Whether each handle in these places may be sent, and none is there twice.
+pub fn examine_places(table: &Table, places: &[u64]) -> Result<(), Status>
+    ensures { fault_of result ≡ list_refusal table.now.entries [] (filled places.now) }
+{
+    for (n, handle) in places.iter().enumerate() {
+        if *handle == 0 {
+            continue;
+        }
+        if places[..n].contains(handle) {
             return Err(Status::BadHandle);
         }
         look_up::<true>(table, *handle, &[], Rights::TRANSFER)?;

@@ -1,5 +1,5 @@
-use Rattle.zl_calls.proofs.Common.{All, All-cons, All-nil, IsNoted, [], arith, common_steps, false, handle_operands, map, reg, slice_index, subst, sym}
-use Rattle.zl_calls.proofs.Common.{taken_handles, used, ◌∙◌, ◌≡◌}
+use Rattle.zl_calls.proofs.Common.{All, All-cons, All-filter, All-nil, IsNoted, [], arith, common_steps, false, handle_operands, map, reg, slice_index, subst}
+use Rattle.zl_calls.proofs.Common.{sym, taken_handles, used, ◌∙◌, ◌≡◌}
 use Rattle.zl_code.specs.declared.history.CallName.TheVariants as name
 use Rattle.zl_calls.proofs.calls.WriteCalls.{takes_listed}
 use Rattle.zl_calls.proofs.tables.TakenBy.{notes_at, notes_none}
@@ -36,7 +36,16 @@ returns-in-ChanWrite c =
     (rw c.handles.ensures at c.listed-count.ensures.values ∙ sym (takes_listed _ _ (map (reg c.args.process.now.cpu) (used c.args.call.now.last))))
     c.note_each.ensures)
 
+pub returns-in-ChanWriteSlots : goal.returns-in-ChanWriteSlots
+unfolding taken_handles handle_operands
+returns-in-ChanWriteSlots c =
+    notes_at c.args.call.now c.args.process.now.cpu name.ChanWriteSlots c.args.process.now.table.entries c.note_each-in-ChanWriteSlots.new.self
+    c.in-ChanWriteSlots.is
+    (subst (All (IsNoted c.args.process.now.table.entries c.note_each-in-ChanWriteSlots.new.self)) (c.sent_places.ensures ∙ sym (takes_listed 0 [] _))
+    (All-filter _ (IsNoted c.args.process.now.table.entries c.note_each-in-ChanWriteSlots.new.self) _ c.note_each-in-ChanWriteSlots.ensures))
+
 pub returns-in_default : goal.returns-in_default
 returns-in_default c =
     notes_none c.args.call.now c.args.process.now.cpu c.args.process.now.table.entries (record c.args.self.now { handles = c.clear.new.self; all = false })
-    c.in_default.not-Close c.in_default.not-Replace c.in_default.not-ChanWrite c.in_default.not-ProcessStart
+    c.in_default.not-Close c.in_default.not-Replace c.in_default.not-ChanWrite c.in_default.not-ChanWriteSlots
+    c.in_default.not-ProcessStart

@@ -1,0 +1,8 @@
+use Rattle.zl_calls.proofs.Common.{[], drop, list_refusal, take, ◌≡◌}
+use Rattle.zl_calls.specs.calls.Channel.{filled}
+use Rattle.zl_calls.proofs.calls.channel.writing.examine_places.Given as goal
+
+abbrev pub invariant-loop-n : goal.invariant-loop-n
+invariant-loop-n l = record {
+  so_far : list_refusal l.table.entries (filled (take l.n l.places)) (filled (drop l.n l.places)) ≡ list_refusal l.table.entries [] (filled l.places);
+}

@@ -2,7 +2,7 @@
 use Rattle.zl_sched.proofs.Common.{Bool, Calls, Library, List, None, Ok, Outcome, Process, Ready, Request, Site, Some, Status, World, [], after_ok, answer_if}
 use Rattle.zl_sched.proofs.Common.{ap, call_ends, child_of, effect, entry_at, eq-eqb, examined, false, false≢true, first_some, get, get-update, gives_ok}
 use Rattle.zl_sched.proofs.Common.{handle_operands, is_created, is_ok, is_process, is_ready, listed, may_want, new_handles, none-some, not, object_at}
-use Rattle.zl_sched.proofs.Common.{on_process, operand, option_to_list, process_start, program_of, refl, refusal, row_of, same_Some, site, started_with, subst}
+use Rattle.zl_sched.proofs.Common.{on_process, operand, option_to_list, process_start, program_of, refl, refusal, row_of, same_Some, started_with, subst}
 use Rattle.zl_sched.proofs.Common.{sym, taken, taken_handles, true, true≢false, with_effect, ℕ, ◌∙◌, ◌∷◌, ◌≡◌}
 use Rattle.zl_rights.specs.declared.policy.Action.TheVariants as action
 use Rattle.zl_rights.specs.declared.status.Status.TheVariants as status
@@ -40,9 +40,9 @@ module _ (lib : Library) (w : World) (p : ℕ) (caller : Process) (there : get w
   abbrev IsBegun : ℕ → World → Type 0
   IsBegun k v = (is_process v is_ready k ≡ true) × (is_process w is_ready k ≡ false)
 
-  module _ (process h word : ℕ) (cs ds : List ℕ) where
+  module _ (process h word : ℕ) (base : Site) where
     abbrev start : Site
-    start = site (process_start process h word) cs ds
+    start = record base { request = process_start process h word }
 
     begins : refusal lib w p (process_start process h word) ≡ None → (vs : List ℕ)
         → IsBegun (object_at w p process) (after_ok lib w p start vs (outcome.Answered status.Ok))
@@ -78,5 +78,5 @@ module _ (lib : Library) (w : World) (p : ℕ) (caller : Process) (there : get w
           → IsBegun q v
       by_request (process_start process h word) asked is o v calls ok =
           subst (λ (k : ℕ). IsBegun k v) (rw there (same_Some _ q is))
-          (ends_so process h word s.consumed s.destinations o v (subst (λ r. Calls lib w p (site r s.consumed s.destinations) o v) asked calls) ok)
+          (ends_so process h word s o v (subst (λ r. Calls lib w p (record s { request = r }) o v) asked calls) ok)
       by_request _ asked is o v calls ok = absurd (none-some q is)

@@ -7,6 +7,7 @@ use Rattle.zl_sched.proofs.Common.{none-some, object_at, ok_outcome, on_object, 
 use Rattle.zl_sched.proofs.Common.{process_start, process_with, process_without, receiver_of, refl, refusal, remove_all, replied, started_with, state_passes}
 use Rattle.zl_sched.proofs.Common.{stored_by, storing, sym, taken, taken_handles, task_kill, true, waiting, wakes, with_effect, with_killed, with_object, ℕ}
 use Rattle.zl_sched.proofs.Common.{◌==◌, ◌∙◌, ◌∷◌, ◌≡◌}
+use Rattle.zl_code.proofs.Common.{keeping, kept_by}
 use Rattle.zl_rights.specs.declared.status.Status.TheVariants as status
 use Rattle.zl_code.specs.declared.history.Outcome.TheVariants as outcome
 use Rattle.zl_sched.proofs.StillReady.{AsOrWoken, settled_so, waking}
@@ -63,6 +64,10 @@ module _ (q : ℕ) where
   fresh_stored u p (address, []) fresh = fresh
   fresh_stored u p (address, b ∷ bytes) fresh = fresh_on u p _ (λ x. refl) fresh
 
+  fresh_kept : (u : World) (p : ℕ) (kept : Option (ℕ × List ℕ)) → IsFresh u → IsFresh (keeping u p kept)
+  fresh_kept u p None fresh = fresh
+  fresh_kept u p (Some x) fresh = fresh_on u p _ (λ x. refl) fresh
+
   free_waiting : (u : World) (p : ℕ) (ds : List ℕ) (awaited : Option Awaited) → IsFree u → IsFree (waiting u p ds awaited)
   free_waiting u p ds None free = free
   free_waiting u p ds (Some awaited) free = free_on u p _ free
@@ -100,8 +105,9 @@ module _ (q : ℕ) where
 
     fresh_done : (s : Site) (vs : List ℕ) → IsFresh (with_effect lib w (taken w p s) p s.request vs)
     fresh_done s vs =
-        fresh_stored _ p (stored_by w p s.request) (fresh_entered _ (receiver_of w p s.request) (new_handles w p s.request) (entering_at s.request vs)
-        (fresh_effect lib w (taken w p s) p s.request vs (free_left w p (taken_handles s.request) free)))
+        fresh_kept _ p (kept_by s.request vs) (fresh_stored _ p (stored_by w p s.request)
+        (fresh_entered _ (receiver_of w p s.request) (new_handles w p s.request) (entering_at s.request vs)
+        (fresh_effect lib w (taken w p s) p s.request vs (free_left w p (taken_handles s.request) free))))
 
     fresh_ok : (s : Site) (vs : List ℕ) (o : Outcome) → IsFresh (after_ok lib w p s vs o)
     fresh_ok s vs (outcome.Answered answer) = fresh_replied (with_effect lib w (taken w p s) p s.request vs) p s status.Ok _ (fresh_done s vs)

@@ -9,7 +9,7 @@ use Rattle.zl_sched.proofs.Common.{process_create, process_ended, process_killed
 use Rattle.zl_sched.proofs.Common.{refl, remove_all, replied, row_of, started_with, state_passes, state_without, stored_by, storing, subst, sym, taken}
 use Rattle.zl_sched.proofs.Common.{task_kill, times-other, times-same, true, waiting, wakes, with_body, with_effect, with_killed, with_object}
 use Rattle.zl_sched.proofs.Common.{without_others, woken_at_port, woken_by, woken_by_first, woken_from, woken_if_there, ℕ, ◌&&◌, ◌==◌, ◌∙◌, ◌∷◌, ◌≡◌, ◌⊎◌}
-use Rattle.zl_code.proofs.Common.{KILLED, koid_in, new_handles, taken_handles, woken}
+use Rattle.zl_code.proofs.Common.{KILLED, keeping, kept_by, koid_in, new_handles, taken_handles, woken}
 use Rattle.zl_rights.specs.declared.status.Status.TheVariants as status
 use Rattle.zl_code.specs.declared.history.Outcome.TheVariants as outcome
 use Rattle.zl_code.specs.declared.history.TraceItem.TheVariants as item
@@ -183,6 +183,10 @@ module _ (k : ℕ) where
   stored w p (address, []) = λ test made gone. refl
   stored w p (address, b ∷ bytes) = moved w p _ (λ x. refl)
 
+  pub kept_in : (w : World) (p : ℕ) (kept : Option (ℕ × List ℕ)) → Left k (keeping w p kept) w
+  kept_in w p None = λ test made gone. refl
+  kept_in w p (Some x) = moved w p _ (λ x. refl)
+
   pub answers : (w : World) (p : ℕ) (s : Site) (answer : Status) (values : List ℕ) → Left k (replied w p s answer values) w
   unfolding replied
   answers w p s answer values = moved w p _ (λ x. refl)
@@ -230,10 +234,11 @@ module _ (k : ℕ) where
 
     effect_so : (s : Site) (vs : List ℕ) → spares w p k s.request ≡ true → Left k (with_effect lib w (taken w p s) p s.request vs) w
     effect_so s vs left =
-        left_then k _ _ w (stored _ p (stored_by w p s.request))
+        left_then k _ _ w (kept_in _ p (kept_by s.request vs))
+        (left_then k _ _ w (stored _ p (stored_by w p s.request))
         (left_then k _ _ w (entered _ (receiver_of w p s.request) (new_handles w p s.request) (entering_at s.request vs))
         (left_then k _ _ w (effected lib w (taken w p s) p s.request vs (still_free p w.next_koid (taken_handles s.request) w free) left)
-        (removed w p (taken_handles s.request))))
+        (removed w p (taken_handles s.request)))))
 
     done_so : (s : Site) (vs : List ℕ) (o : Outcome) → spares w p k s.request ≡ true → (goes_on o ≡ false → (p == k) ≡ false)
         → Left k (after_ok lib w p s vs o) w

@@ -308,7 +308,7 @@ runs_child = refl
 starts_child : StartsChild library at_start 7 starting 15
 unfolding computing boot_effect
 starts_child = record {
-  site = record { request = process_start 21 13 0; consumed = 3 ∷ []; destinations = 31 ∷ [] };
+  site = record { request = process_start 21 13 0; consumed = 3 ∷ []; emptied = None; destinations = 31 ∷ [] };
   next = refl;
   process = 21;
   handle = 13;

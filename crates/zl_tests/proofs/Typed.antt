@@ -176,7 +176,8 @@ IsStepBound-by i f h = record {
   falls = λ n cs are. by n cs (at f n) refl;
 }
   where
-    by : (n : ℕ) (cs : List ℕ) (o : Option State) → at f n ≡ o → AllBelow (numbers i) (i.budget - n) (spots (slice_get (marks_of i.code) n) n cs (leads_by i n o))
+    by : (n : ℕ) (cs : List ℕ) (o : Option State) → at f n ≡ o
+        → AllBelow (numbers i) (i.budget - n) (spots (slice_get (marks_of i.code) n) n cs (leads_by i n o))
     by n cs None is = tt
     by n cs (Some s) is =
         let both = and_parts (is_plain (slice_get (marks_of i.code) n)) _ (passed (falls_at i f) f h n s is) in

@@ -59,12 +59,12 @@ def packet_text(packet):
 def done_by(call):
     """What a call was about, before anything comes of it."""
     done = Done(call.outcome)
-    for place, _, _ in call.one.handle_places:
+    for place, _, _ in call.handle_places:
         value, entry = call.values[place], call.entries.get(place)
         if entry:
-            done.operands.append(f"r{call.one.operands[place]} has handle {value}: {entry_text(entry)}")
+            done.operands.append(f"{holder_text(call, place)} has handle {value}: {entry_text(entry)}")
         elif value or call.one.name != "close":
-            done.operands.append(f"r{call.one.operands[place]} has {value}: no handle")
+            done.operands.append(f"{holder_text(call, place)} has {value}: no handle")
         done.names.append(f"{entry.kind} {entry.koid}" if entry else f"{value} is no handle")
     if call.outcome.startswith("ended") and meanings(call.process.code):
         done.about.append(ended(call.process.code))
@@ -76,6 +76,14 @@ def done_by(call):
         if tell:
             tell(call, done)
     return done
+
+
+def holder_text(call, place):
+    """Where the value of an operand stands: in a register, or in a slot array."""
+    registers = call.one.operands
+    if place < len(registers):
+        return f"r{registers[place]}"
+    return f"place {call.slots[place - len(registers)][0]} of slot array {call.one.number}"
 
 
 def gets(call, done):
@@ -103,7 +111,14 @@ def writes(call, done):
 def reads(call, done):
     text = message_text(call.moved)
     done.about.append(f"{text}, from process {call.moved.sent.by}")
+    if call.one.row.is_into_slots and call.moved.entries:
+        done.about.append(f"slot array {call.one.number} gets its handles")
     done.arrows.append(("read", call.moved.sent.by, call.moved.sent, text))
+
+
+def tells(call, done):
+    (kind, rights), (number, bits) = call.one.written[1:], call.given
+    done.about.append(f"r{kind} gets {number} ({call.entries[1].kind}), r{rights} gets {bits}")
 
 
 def changes(call, done):
@@ -150,9 +165,10 @@ def sets(call, done):
 
 
 # What is told of a call by what it gives, and of others by their names.
-GIVEN = {"copies": gets_other_rights, "makes": gets, "packet": moves_packet, "signals": waits, "sizes": reads}
+GIVEN = {"copies": gets_other_rights, "makes": gets, "packet": moves_packet, "signals": waits, "sizes": reads,
+         "tells": tells}
 ABOUT = {
-    "chan_write": writes, "signal": changes, "signal_peer": changes, "wait_async": registers,
+    "chan_write": writes, "chan_write_slots": writes, "signal": changes, "signal_peer": changes, "wait_async": registers,
     "port_queue": moves_packet, "port_cancel": cancels, "process_start": starts, "job_set_policy": sets,
 }
 

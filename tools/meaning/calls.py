@@ -1,5 +1,8 @@
 """The calls: why each is refused, in the order in which that is looked for, and what it does."""
+from itertools import takewhile
+
 from meaning.cpu import signed
+from meaning.instructions import handle_places
 from meaning.numbers import (
     ACTION_NAMES, BY_POLICY, CONDITION_NAMES, KILLED, KINDS, MODE_NAMES, NEEDS, SAME_RIGHTS, SIGNALED, STATUSES,
     USER_SIGNALS,
@@ -7,7 +10,7 @@ from meaning.numbers import (
 from meaning.objects import Awaited, Entry, Message, Packet, Wait
 
 MOST_HANDLES = 1024
-MOST_BYTES = 65536
+MOST_BYTES, MOST_SENT = 65536, 64
 MOST_SIGNALS = 0xFFFFFFFF
 MOST_PACKETS = 2048
 MOST_DEPTH = 16
@@ -42,13 +45,17 @@ class Blocked(Exception):
 
 
 class Call:
-    """A call with the values of its operands by their places, and the entries of those that are handles."""
+    """A call with the values of its operands by their places, and the entries of those that are handles. What a slot
+    array gives stands behind the registers."""
 
     def __init__(self, world, pid, one, is_without_memory):
         self.world, self.pid, self.one = world, pid, one
         self.process = world.processes[pid]
-        registers = self.process.cpu.registers
-        self.values = [registers[register] for register in one.operands]
+        cpu = self.process.cpu
+        # the places of the slot array that give a handle, and their values
+        self.slots = [(n, value) for n, value in enumerate(cpu.front(one)) if value] if one.row.is_from_slots else []
+        self.values = [cpu.registers[register] for register in one.operands] + [value for _, value in self.slots]
+        self.handle_places = handle_places(one, len(self.slots)) if self.slots else one.handle_places
         self.entries = {}
         self.is_without_memory = is_without_memory
         # how it ended as traces have it, what it gave behind the status, and what it moved for others to tell of
@@ -67,7 +74,7 @@ class Call:
     def look_up(self):
         """The status of the first handle that won't do, if there is one; the entries of all are kept."""
         refused, listed = None, len(self.one.registers)
-        for place, (kinds, rights), _ in self.one.handle_places:
+        for place, (kinds, rights), _ in self.handle_places:
             value = self.values[place]
             entry = self.process.handles.get(value)
             if entry:
@@ -103,14 +110,18 @@ class Call:
 
     def consume(self):
         """The operands that go are gone from the table."""
-        for place in self.one.consumed:
-            self.world.take_out(self.process, self.values[place])
+        for place, _, goes in self.handle_places:
+            if goes:
+                self.world.take_out(self.process, self.values[place])
 
     def finish(self, status, given):
-        """The registers of what was consumed are 0, and then the others get the answer, or 0."""
+        """The registers and the places of what was consumed are 0, and then the others get the answer, or 0."""
         self.outcome, self.given = status, given
+        cpu = self.process.cpu
         for place in self.one.consumed:
-            self.process.cpu.registers[self.one.operands[place]] = 0
+            cpu.registers[self.one.operands[place]] = 0
+        if self.one.row.is_from_slots:
+            cpu.fill(self.one.number, [0] * len(cpu.front(self.one)))
         written = self.one.written
         values = (STATUSES[status], *given)
         self.world.answer(self.process, written, values + (0,) * (len(written) - len(values)))
@@ -155,6 +166,11 @@ def narrowed(call):
     return Entry(entry.koid, entry.kind, entry.rights if asked == SAME_RIGHTS else asked)
 
 
+def handle_info(call):
+    entry = call.entries[1]
+    return KINDS[entry.kind], entry.rights
+
+
 def dup(call):
     entry = narrowed(call)
     call.want(1)
@@ -186,12 +202,13 @@ def peer_of(call):
 
 
 def chan_write(call):
-    world, (address, length) = call.world, call.values[2:4]
-    refuse_if(call.values[1] in call.values[4:], "NOT_SUPPORTED")
-    refuse_if(length > MOST_BYTES, "OUT_OF_RANGE")
+    world, (address, length), first = call.world, call.values[2:4], len(call.one.registers)
+    listed = range(first, len(call.values))
+    refuse_if(call.values[1] in call.values[first:], "NOT_SUPPORTED")
+    refuse_if(length > MOST_BYTES or len(listed) > MOST_SENT, "OUT_OF_RANGE")
     peer = peer_of(call)
     call.want()
-    entries = tuple(call.entries[place] for place in range(4, len(call.values)))
+    entries = tuple(call.entries[place] for place in listed)
     call.moved = Message(call.process.cpu.memory[address:address + length], entries, world.sent())
     call.consume()
     world.change(peer, queue=(*world.objects[peer].queue, call.moved))
@@ -199,20 +216,36 @@ def chan_write(call):
 
 
 def chan_read_etc(call):
+    sizes = take_message(call, call.one.number)
+    told = []
+    for entry in call.moved.entries:
+        told += [call.process.insert(entry), KINDS[entry.kind], entry.rights]
+    return (*sizes, *told)
+
+
+def chan_read_slots(call):
+    """There is room for as many handles as places at the front of the slot array are 0."""
+    cpu, array = call.process.cpu, call.one.number
+    front = list(takewhile(lambda value: value == 0, cpu.slots[array]))
+    sizes = take_message(call, min(len(front), MOST_SENT))
+    cpu.fill(array, [call.process.insert(entry) for entry in call.moved.entries])
+    return sizes
+
+
+def take_message(call, places):
+    """The first message leaves the queue, if there is room for its bytes and so many places for its handles; how many it
+    has of both. Its bytes are in the memory."""
     queue = call.target.queue
     if not queue:
         peer_of(call)
         raise Refused("SHOULD_WAIT")
     call.moved = message = queue[0]
     sizes = len(message.content), len(message.entries)
-    refuse_if(sizes[0] > call.values[3] or sizes[1] > call.one.number, "BUFFER_TOO_SMALL", sizes)
+    refuse_if(sizes[0] > call.values[3] or sizes[1] > places, "BUFFER_TOO_SMALL", sizes)
     call.want(sizes[1])
     call.process.cpu.store(call.values[2], message.content)
-    told = []
-    for entry in message.entries:
-        told += [call.process.insert(entry), KINDS[entry.kind], entry.rights]
     call.world.change(call.koid, queue=queue[1:])
-    return (*sizes, *told)
+    return sizes
 
 
 # ---- events, signals and waits
@@ -406,5 +439,6 @@ EFFECTS = {
     "port_create": new_object("port"), "port_queue": port_queue, "port_wait": port_wait, "port_poll": port_poll,
     "port_cancel": port_cancel, "process_create": process_create, "process_start": process_start,
     "process_exit": process_exit, "task_kill": task_kill, "job_create": job_create,
-    "job_set_policy": job_set_policy, "eventpair_create": new_pair("eventpair"),
+    "job_set_policy": job_set_policy, "eventpair_create": new_pair("eventpair"), "chan_write_slots": chan_write,
+    "chan_read_slots": chan_read_slots, "handle_info": handle_info,
 }

@@ -70,10 +70,13 @@ class Carrying:
         one, carried = call.one, self.of[call.pid]
         given = [one.written[place] for place in one.row.handles_given if place < len(one.written)]
         carried.written(one.written, given if call.outcome == "OK" else ())
+        carried.slots -= {(one.number, place) for place, _ in call.slots}
         if call.outcome != "OK":
             return
-        if one.name == "chan_read_etc":
+        if one.row.gives[:1] == ("sizes",):
             carried.stored(call.values[2], len(call.moved.content))
+        if one.row.is_into_slots:
+            carried.slots |= {(one.number, place) for place in range(len(call.moved.entries))}
         elif one.name == "process_start":
             self.of[call.koid] = Carried([0])
 

@@ -58,6 +58,10 @@ class Cpu:
             raise Stuck(f"no instruction has the opcode {one.content[0]}")
         if one.has_range:
             self.within(self.registers[one.registers[2]], self.registers[one.registers[3]])
+            if one.row.is_from_slots:
+                self.front(one)
+            elif one.row.is_into_slots:
+                self.array(one.number)
         return one
 
     def within(self, address, length):
@@ -65,6 +69,24 @@ class Cpu:
         if address + length > len(self.memory):
             raise Stuck(f"{length} bytes from address {address} on, and the memory has {len(self.memory)}")
         return slice(address, address + length)
+
+    def array(self, number):
+        """The places of a slot array that is there, or the process is stuck."""
+        if number >= len(self.slots):
+            raise Stuck(f"there is no slot array {number}")
+        return self.slots[number]
+
+    def front(self, one):
+        """The first places of a slot array, from which a call gives handles, or the process is stuck."""
+        places, count = self.array(one.number), self.registers[one.registers[4]]
+        if count > len(places):
+            raise Stuck(f"slot array {one.number} has {len(places)} places, and not {count}")
+        return places[:count]
+
+    def fill(self, number, values):
+        """The first places of a slot array get these values."""
+        places = (*values, *self.slots[number][len(values):])
+        self.slots = (*self.slots[:number], places, *self.slots[number + 1:])
 
     def store(self, address, content):
         where = self.within(address, len(content))
@@ -109,12 +131,9 @@ def take(cpu, one):
 def swap(cpu, one):
     """Exchanges a register with a place of a slot array."""
     (register, by), array = one.registers, one.number
-    place = cpu.registers[by]
-    if array >= len(cpu.slots):
-        raise Stuck(f"there is no slot array {array}")
-    if place >= len(cpu.slots[array]):
-        raise Stuck(f"slot array {array} has {len(cpu.slots[array])} places, and no place {place}")
-    places = list(cpu.slots[array])
+    place, places = cpu.registers[by], list(cpu.array(array))
+    if place >= len(places):
+        raise Stuck(f"slot array {array} has {len(places)} places, and no place {place}")
     cpu.registers[register], places[place] = places[place], cpu.registers[register]
     cpu.slots = (*cpu.slots[:array], tuple(places), *cpu.slots[array + 1:])
     return cpu.place + 1

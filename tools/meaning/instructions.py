@@ -10,7 +10,8 @@ TABLE = Path(__file__).with_name("instructions.txt")
 WRITTEN, READ, HANDLE, CONSUMED, FIRST = "wrhcf"
 USES = {"writes": WRITTEN, "reads": READ, "changes": WRITTEN, "names": HANDLE, "consumes": CONSUMED,
         "closes": CONSUMED, "triples": FIRST}
-ENDINGS = {"": "", "number": "n", "target": "t", "number, target": "nt", "handles": "l", "room": "m"}
+ENDINGS = {"": "", "number": "n", "target": "t", "number, target": "nt", "handles": "l", "room": "m",
+           "from slots": "g", "into slots": "k"}
 
 
 @dataclass(frozen=True)
@@ -20,7 +21,8 @@ class Row:
     opcode: int
     name: str
     fields: str
-    # "" for nothing, "n" a number, "t" a target, "nt" both, "l" a list of handles, "m" room for some
+    # "" for nothing, "n" a number, "t" a target, "nt" both, "l" a list of handles, "m" room for some, "g" and "k" a slot
+    # array that gives handles, or keeps those that come
     ending: str = ""
     # of each handle the kinds that will do, none for any, and the right that it needs
     wants: tuple = ()
@@ -52,7 +54,7 @@ class Row:
 
     @property
     def has_number(self):
-        return self.ending in ("n", "nt", "m")
+        return self.ending in ("n", "nt", "m", "g", "k")
 
     @property
     def handles_given(self):
@@ -61,9 +63,24 @@ class Row:
         return {"copies": (1,), "makes": range(1, len(kinds) + 1), "sizes": range(3, 27, 3)}.get(what, ())
 
     @property
+    def is_from_slots(self):
+        """Whether handles go from as many of the first places of its slot array as its fifth register says."""
+        return self.ending == "g"
+
+    @property
+    def is_into_slots(self):
+        """Whether handles that come go to the first places of its slot array."""
+        return self.ending == "k"
+
+    @property
+    def has_array(self):
+        """Whether it is a call with a slot array."""
+        return self.is_from_slots or self.is_into_slots
+
+    @property
     def has_range(self):
         """Whether its third and fourth register are an address and a length."""
-        return self.ending in ("l", "m")
+        return self.ending in ("l", "m", "g", "k")
 
 
 def wanted(kinds="any", right="-"):
@@ -97,10 +114,11 @@ def row_at(version, opcode):
 PAUSES = ("wait_one", "port_wait", "process_exit")
 
 
-def handle_places(one):
-    """The places of handles among the operands, each with what is wanted of it and whether it goes."""
+def handle_places(one, given=0):
+    """The places of handles among the operands, each with what is wanted of it and whether it goes. Behind those in
+    registers come as many as a slot array gives."""
     places = [place for place, use in enumerate(one.row.fields) if use in (HANDLE, CONSUMED)]
     found = [(place, want, one.row.fields[place] == CONSUMED) for place, want in zip(places, one.row.wants)]
     first = len(one.row.fields)
-    found += [(first + n, one.row.wants[1], True) for n in range(len(one.handles))]
+    found += [(first + n, one.row.wants[1], True) for n in range(len(one.handles) + given)]
     return found

@@ -10,6 +10,7 @@ from dataclasses import dataclass
 from meaning.cpu import WIDTHS
 from meaning.image import MOST_BUDGET, decode
 from meaning.mending import all_refusals
+from meaning.numbers import RIGHTS, rights_text
 from meaning.rules import target_of
 from meaning.scenario import is_scenario, is_skipped, words_of
 from meaning.texts import bare, is_instruction
@@ -35,6 +36,8 @@ CURES = {
     "Budget": "a larger .budget, or a wait in the loop",
     "IllegalOp": "no instruction is so, whatever the registers hold",
 }
+# The same, where it is the places of a slot array that are too few.
+PLACES_CURE = "bound it above by jge, or have more by .slots"
 # How what to do ends where a handle may be 0.
 NIL_TEST = " above it"
 # Of these the tools' text says as much in fewer words.
@@ -153,7 +156,7 @@ class Linting:
         at = min(refusal.at, len(places) - 1)
         place = places[at] if places else next(iter(lines), 1)
         text, cure, page = told_by_tools(lines, places, found, refusal)
-        if said and (heard := SAID.fullmatch(said[0])):
+        if said and (heard := SAID.fullmatch(said[0])) and not is_of_array(found.image, refusal):
             its_text, its_cure = parted(heard[3].split(": ", 1)[-1], ": " if refusal.cause == "MemoryRange" else "; ")
             if refusal.cause not in SHORT:
                 text = its_text
@@ -169,12 +172,15 @@ class Linting:
         code = found.image.code
         if refusal.cause == "BadJump":
             return len(code[refusal.at].row.fields) + code[refusal.at].row.has_number + 1, "leads behind the last instruction"
+        if is_of_array(found.image, refusal):
+            return len(code[refusal.at].row.fields) + 1, ""
         if refusal.register is None or refusal.at >= len(code) or code[refusal.at].row is None:
             return 0, ""
         one = code[refusal.at]
         at_fault = [n for n, register in enumerate(one.operands) if register == refusal.register]
         if refusal.cause == "MemoryRange" and one.has_range:
-            at_fault = [max((2, 3), key=lambda n: bound_of(refusal.state[one.registers[n]]))]
+            ends = (2, 3) if most_in_range(refusal.state, one) > found.image.memory else (4,)
+            at_fault = [max(ends, key=lambda n: bound_of(refusal.state[one.registers[n]]))]
         if refusal.cause in ("NotLive", "WrongKind", "LacksRight"):
             handles = [n for n, _, _ in one.handle_places]
             at_fault = [n for n in at_fault if n in handles] or at_fault
@@ -270,13 +276,15 @@ def told_by_tools(lines, places, found, refusal):
     if cause == "UndeclaredNeed":
         need = found.image.code[refusal.at].row.condition
         return f"no line .need {need} declares it", f".need {need}", page
+    if is_of_array(found.image, refusal):
+        return (*array_text(found.image, refusal), page)
     if register is None or not state:
         return bare(lines.get(places[refusal.at], "")) if refusal.at < len(places) else "the end", CURES[cause], page
     value = state[register]
     if cause == "NotLive" and isinstance(value, Has) and value.maybe:
         return f"r{register} may be 0 here", f"jz r{register}, {way_out(lines)}{NIL_TEST}", page
     if cause == "MemoryRange" and (told := range_text(found.image, refusal)):
-        return told, CURES[cause], page
+        return told, PLACES_CURE if "slot array" in told else CURES[cause], page
     if cause == "JoinConflict" and refusal.other:
         return f"r{register} has {value} after one way, and {refusal.other[register]} after the other", CURES[cause], page
     return f"r{register} has {value}", CURES[cause], page
@@ -289,15 +297,48 @@ def bound_of(value):
 
 def range_text(image, refusal):
     """How far an access to the memory may go."""
-    one = image.code[refusal.at]
+    one, state = image.code[refusal.at], refusal.state
+    if one.has_range and (most := most_in_range(state, one)) > image.memory:
+        return "r{} + r{} may be {}, and the memory has {}".format(*one.registers[2:4], most, image.memory)
     if one.has_range:
-        address, length = one.registers[2:4]
-        most = bound_of(refusal.state[address]) + bound_of(refusal.state[length])
-        return f"r{address} + r{length} may be {most}, and the memory has {image.memory}"
+        count, length = one.registers[4], image.slots[one.number][1]
+        return f"r{count} may be {bound_of(state[count])}, and slot array {one.number} has the length {length}"
     if one.name not in WIDTHS:
         return ""
     most = bound_of(refusal.state[refusal.register]) + one.number + WIDTHS[one.name]
     return f"r{refusal.register} + {one.number} + {WIDTHS[one.name]} bytes may be {most}, and the memory has {image.memory}"
+
+
+def most_in_range(state, one):
+    """Where the bytes of a message end at most."""
+    return sum(bound_of(state[register]) for register in one.registers[2:4])
+
+
+def is_of_array(image, refusal):
+    """Whether the slot array of a call is at fault."""
+    one = image.code[refusal.at] if refusal.at < len(image.code) else None
+    if one is None or one.row is None or refusal.register is not None or not one.row.has_array:
+        return False
+    return refusal.cause in ("WrongKind", "LacksRight") or (refusal.cause == "IllegalOp" and one.number >= len(image.slots))
+
+
+def array_text(image, refusal):
+    """Why it can't be that of the call, and what to do."""
+    one = image.code[refusal.at]
+    if refusal.cause == "IllegalOp":
+        return f"there is no slot array {one.number}; the program has {len(image.slots)}", "declare it by a line .slots"
+    kind, length, rights = image.slots[one.number]
+    names = rights_text(rights, kind)
+    # one that is read into and sent from can't be declared for both
+    is_both = len({other.name for other in image.code if other.row and other.row.has_array and other.number == one.number}) > 1
+    if one.row.is_from_slots:
+        cure = f".slots {kind or 'any'} {length} {rights | RIGHTS['TRANSFER']}"
+        return (f"the handles of slot array {one.number} have to have TRANSFER, and have {names}",
+                "send from another array, as chan_read_slots fills this one" if is_both else cure)
+    asked = "the kind " + kind if refusal.cause == "WrongKind" else f"handles with {names}"
+    may = "handle may be of any" if refusal.cause == "WrongKind" else "one may have no rights"
+    return (f"slot array {one.number} is for {asked}, and a received {may}",
+            "receive into another array, as chan_write_slots sends from this one" if is_both else f".slots any {length} 0")
 
 
 def way_out(lines):

@@ -1,5 +1,7 @@
 """The verifier's search that goes on behind what is refused, as if its author had mended that place alone."""
-from meaning.numbers import KNOWN_RIGHTS
+from dataclasses import replace
+
+from meaning.numbers import KNOWN_RIGHTS, RIGHTS
 from meaning.rules import Refused, edges
 from meaning.steps import steps_of
 from meaning.values import ANYTHING, ZERO, Has, refined
@@ -13,21 +15,31 @@ class Mending(Search):
     """A refused instruction leads on with the register at fault as it should have been."""
 
     def led(self, place, state):
-        given, image = state, self.image
+        given, image, one = state, self.image, self.image.code[place]
         for _ in range(MOST):
             try:
                 led = edges(image, self.bounds, place, given)
                 return [(target, restored(state, given, after)) for target, after in led]
             except Refused as refused:
                 self.refuse(Refusal(place, refused.cause, refused.register, state))
-                if refused.cause in OF_DECLARATIONS and image is not self.amended:
-                    image = self.amended
+                if refused.cause in OF_DECLARATIONS and image.memory != self.amended.memory:
+                    image = replace(image, needs=self.amended.needs, memory=self.amended.memory)
                     continue
-                value = mended(self.image.code[place], refused, given)
+                if refused.register is None and refused.cause in ("WrongKind", "LacksRight"):
+                    image = with_array(image, one)
+                    continue
+                value = mended(one, refused, given)
                 if value is None or value == given[refused.register]:
                     return []
                 given = refined(given, refused.register, value)
         return []
+
+
+def with_array(image, one):
+    """The image with the slot array of a call as it should be."""
+    slots = list(image.slots)
+    slots[one.number] = None, slots[one.number][1], RIGHTS["TRANSFER"] if one.row.is_from_slots else 0
+    return replace(image, slots=tuple(slots))
 
 
 def mended(one, refused, state):

@@ -1,7 +1,7 @@
 """The verifier's rule of each instruction: where it leads, and with what in the registers, or a cause."""
 from meaning.cpu import LOADS, WIDTHS
 from meaning.instructions import READ, WRITTEN, handle_places
-from meaning.numbers import KIND_NAMES, KNOWN_RIGHTS, SAME_RIGHTS
+from meaning.numbers import KIND_NAMES, KNOWN_RIGHTS, RIGHTS, SAME_RIGHTS
 from meaning.values import (
     ANY, ANYTHING, TAGS, ZERO, Has, KindOf, RightsOf, Word, new_handle, refined, rounded, with_value,
 )
@@ -233,10 +233,13 @@ def call(image, bounds, one, state):
         examine(after, register, wanted, one.name == "close")
         if goes:
             after = with_value(after, register, ZERO)
+    examine_array(image, one)
     numbers = [register for register, use in zip(one.registers, one.row.fields) if use == READ]
     limits = [word_at(state, register) for register in numbers]
-    if one.row.has_range and sum(limits) > image.memory:
+    if one.row.has_range and sum(limits[:2]) > image.memory:
         raise Refused("MemoryRange", numbers[0])
+    if one.row.is_from_slots and limits[2] > image.slots[one.number][1]:
+        raise Refused("MemoryRange", numbers[2])
     if one.row.condition and one.row.condition not in image.needs:
         raise Refused("UndeclaredNeed")
     results = results_of(bounds, one, state)
@@ -266,6 +269,19 @@ def examine(state, register, wanted, may_be_zero):
         raise Refused("LacksRight", register)
 
 
+def examine_array(image, one):
+    """The slot array of a call: handles that go need TRANSFER, and of those that come nothing is known."""
+    if not one.row.has_array:
+        return
+    if one.number >= len(image.slots):
+        raise Refused("IllegalOp")
+    kind, _, rights = image.slots[one.number]
+    if one.row.is_into_slots and kind:
+        raise Refused("WrongKind")
+    if rights if one.row.is_into_slots else not rights & RIGHTS["TRANSFER"]:
+        raise Refused("LacksRight")
+
+
 def narrowed(value, asked):
     return Has(True, value.kind, value.rights if asked == SAME_RIGHTS else asked & KNOWN_RIGHTS)
 
@@ -277,6 +293,8 @@ def given_by(bounds, one, state):
         return [new_handle(kind) for kind in kinds]
     if what == "copies":
         return [narrowed(state[one.registers[1]], one.number)]
+    if what == "tells":
+        return [KindOf(one.registers[1]), RightsOf(one.registers[1])]
     return {"nothing": [], "sizes": [Word(65536), Word(64)], "signals": [Word(0xFFFFFFFF)],
             "packet": [ANYTHING, Word(rounded(bounds, 1)), ANYTHING, ANYTHING]}[what]
 

@@ -90,10 +90,23 @@ def next_text(world, pid):
     if place >= len(texts):
         return f"{place}: no instruction"
     told = f"{place}: {texts[place]}"
-    one = process.cpu.image.code[place]
-    objects = [f"r{one.operands[at]} has {handle_text(process, process.cpu.registers[one.operands[at]])}"
-               for at, _, _ in (one.handle_places if one.row else ())]
+    objects = list(named_by(process, process.cpu.image.code[place]))
     return told + (" | " + "; ".join(objects) if objects else "")
+
+
+def named_by(process, one):
+    """What the handles of an instruction name, in its registers and in the slots from which it gives them."""
+    if one.row is None:
+        return
+    for at, _, _ in one.handle_places:
+        yield f"r{one.operands[at]} has {handle_text(process, process.cpu.registers[one.operands[at]])}"
+    if one.row.is_from_slots:
+        try:
+            for place, value in enumerate(process.cpu.front(one)):
+                if value:
+                    yield f"place {place} of slot array {one.number} has {handle_text(process, value)}"
+        except Stuck as stuck:
+            yield str(stuck)
 
 
 def handle_text(process, value):

@@ -25,7 +25,7 @@ syntax match zlasmBytes /\<\x\{32}\>/ contained
 " Local instructions and calls.
 syntax match zlasmLocal /\%(^ *\)\@<=\%(const\|mov\|addi\|add\|sub\|and\|or\|xor\|shl\|shr\|take\|swap\|ld8\|ld64\|st8\|st64\|rep\) \@=/
 syntax match zlasmLocal /\%(^ *\)\@<=\%(endrep\)\%( *\%(;.*\)\=$\)\@=/
-syntax match zlasmCall /\%(^ *\)\@<=\%(close\|dup\|replace\|chan_create\|chan_write\|chan_read_etc\|event_create\|signal\|signal_peer\|wait_one\|wait_poll\|wait_async\|port_create\|port_queue\|port_wait\|port_poll\|port_cancel\|process_create\|process_start\|process_exit\|task_kill\|job_create\|job_set_policy\|eventpair_create\) \@=/
+syntax match zlasmCall /\%(^ *\)\@<=\%(close\|dup\|replace\|chan_create\|chan_write\|chan_read_etc\|event_create\|signal\|signal_peer\|wait_one\|wait_poll\|wait_async\|port_create\|port_queue\|port_wait\|port_poll\|port_cancel\|process_create\|process_start\|process_exit\|task_kill\|job_create\|job_set_policy\|eventpair_create\|chan_write_slots\|chan_read_slots\|handle_info\) \@=/
 
 " A jump, whose last word may be a label that looks like a register.
 syntax region zlasmJump start=/\%(^ *\)\@<=j\%(mp\|z\|nz\|eq\|ne\|lt\|ge\|has\|nhas\) \@=/ end=/$/ oneline keepend contains=zlasmJumpName,zlasmRegister,zlasmNumber,zlasmTarget,zlasmComment,zlasmError

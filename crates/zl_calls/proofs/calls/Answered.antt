@@ -1,5 +1,6 @@
 -- From what a call does to its parts to the relation of calls.
-use Rattle.zl_calls.proofs.Common.{Entry, Err, Handles, IfSome, Inserts, IsTrue, List, Map, None, Objects, Ok, Option, Replies, Request, Result, Site, Some, Status}
+use Rattle.zl_calls.proofs.Common.{Entry, Err, Handles, IfSome, Inserts, IsTrue, List, Map, None, Objects, Ok, Option, Replies, Request, Result}
+use Rattle.zl_calls.proofs.Common.{Site, Some, Status}
 use Rattle.zl_calls.proofs.Common.{World, [], and_from, ap, arith, cpu_answered, eq-eqb, get, map, may_get, may_get_all, nat_tests, no_value, object_value}
 use Rattle.zl_calls.proofs.Common.{on_object, on_process, process_entry, process_value, process_with, put, refl, replied, status_of, subst, sym, table_of, true}
 use Rattle.zl_calls.proofs.Common.{update, values_of, world_value, ℕ, ⊤, ◌∙◌, ◌∷◌, ◌≡◌}

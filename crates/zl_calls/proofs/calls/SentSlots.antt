@@ -80,7 +80,8 @@ then_there true x there = (refl, refl)
 then_there false x there = absurd (elim (false≢true there) [ ])
 
 module _ (i : CallInstr) (c : Cpu) (is : i.name ≡ name.ChanWriteSlots) (there : IsSome (site_of i c)) where
-  both : (site_in name.ChanWriteSlots i c ≡ Some (site_at name.ChanWriteSlots i c)) × (is_range_there i c && has_places (emptied_count i c) (array_in i c) ≡ true)
+  both : (site_in name.ChanWriteSlots i c ≡ Some (site_at name.ChanWriteSlots i c))
+      × (is_range_there i c && has_places (emptied_count i c) (array_in i c) ≡ true)
   both = then_there _ _ (subst (λ s. IsSome s) (site_named i c ∙ ap (λ n. site_in n i c) is) there)
 
   pub at_slots : site_of i c ≡ Some (site_at name.ChanWriteSlots i c)

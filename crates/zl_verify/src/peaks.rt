@@ -190,7 +190,8 @@ fn over(
 ) -> Result<Option<usize>, AllocError>
     requires nested { IsNested (marks_of image.now.code) targets.now }
     requires longest { AreLongest (marks_of image.now.code) targets.now most pairs.now }
-    ensures { IfOk result (λ found. IsFirstOver (marks_of image.now.code) targets.now most pairs.now found) }
+    ensures { IfOk result (λ found.
+        IsFirstOver (marks_of image.now.code) targets.now most pairs.now found) }
 {
     if image.is_flat() {
         return Ok(first_long(pairs, most));

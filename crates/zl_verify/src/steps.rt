@@ -224,7 +224,8 @@ fn give(
     ensures long { length pairs.new ≡ length image.now.code }
     ensures given { Given (marks_of image.now.code) targets.now most pairs.new }
     ensures same { OnFalse result (pairs.new ≡ pairs.old) }
-    ensures stuck { OnFalse result (IsStuckAt (marks_of image.now.code) targets.now most pairs.new place) }
+    ensures stuck { OnFalse result
+        (IsStuckAt (marks_of image.now.code) targets.now most pairs.new place) }
     ensures fewer { missing pairs.new + one_if result ≤ missing pairs.old }
 {
     if pairs[place].is_some() {

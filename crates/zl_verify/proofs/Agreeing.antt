@@ -1,14 +1,13 @@
 -- The rule of each local instruction and its effect agree.
 use Rattle.zl_verify.proofs.Common.{ANY, AbsVal, Bool, Cause, Cpu, Describes, Entry, Err, Has, Holds, Image, IsHandle, IsMemory, IsState, KNOWN_RIGHTS, List}
 use Rattle.zl_verify.proofs.Common.{LocalInstr, None, Ok, Option, Result, SlotArray, Some, State, Table, Word, [], and_le_l, and_le_r, and_then, ap}
-use Rattle.zl_verify.proofs.Common.{are_registers, arith, below_ways, bit_and, bit_or, bit_xor, bits, both, capped, computes, copies, drop}
-use Rattle.zl_verify.proofs.Common.{eq-eqb, equal_ways, false, has_ways, if◌then◌else◌, in_memory, inl, inr, is_32_bits, is_has, is_in_memory, is_it}
-use Rattle.zl_verify.proofs.Common.{is_local_in_range, kind_below, length, loads, local_effect, local_parts, local_rule, may_move, mod-le, mod-lt, moved}
-use Rattle.zl_verify.proofs.Common.{nat_le, nat_lt, nat_tests, not, number_of, one_if, or_lt, owns, passes, pow_pos, refl, reg, rounded, sets, shifted}
+use Rattle.zl_verify.proofs.Common.{are_registers, arith, below_ways, bit_and, bit_or, bit_xor, bits, both, capped, computes, cond_both, copies, drop, eq-eqb}
+use Rattle.zl_verify.proofs.Common.{equal_ways, false, has_ways, if◌then◌else◌, imm_of, in_memory, inl, inr, is_32_bits, is_has, is_in_memory, is_it}
+use Rattle.zl_verify.proofs.Common.{is_local_in_range, kind_below, length, loads, local_effect, local_parts, local_rule, marks_of, may_move, mod-le, mod-lt}
+use Rattle.zl_verify.proofs.Common.{moved, nat_le, nat_lt, nat_tests, not, number_of, one_if, or_lt, owns, passes, pow_pos, refl, reg, rounded, sets, shifted}
 use Rattle.zl_verify.proofs.Common.{slice_get, slice_index_or, slice_set, slot_fault, smaller, stores, subst, suc, swaps, swaps_by, swaps_in, sym, take}
 use Rattle.zl_verify.proofs.Common.{target_of, true, unless, value_at, with_value, within, word_at, writes, xor_lt, zero, zero_ways, ℕ, ◌%◌, ◌&&◌, ◌*◌, ◌+◌}
 use Rattle.zl_verify.proofs.Common.{◌-◌, ◌/◌, ◌<◌, ◌==◌, ◌^◌, ◌∷◌, ◌≡◌, ◌≢◌, ◌≤◌, ◌⊎◌}
-use Rattle.zl_code.specs.Blocks.{imm_of, marks_of}
 use Rattle.zl_code.specs.Limits.{most_blocks}
 use Rattle.zl_code.specs.Local.{wrapped, loads as loads_from, stores as stores_to, goes_if, turns_by}
 use Rattle.zl_abs.specs.Outcome.{Outcome}
@@ -24,7 +23,6 @@ use Rattle.zl_verify.proofs.Memories.{byte_less, word_less, stored}
 use Rattle.zl_verify.proofs.Owners.{not_0}
 use Rattle.zl_abs.proofs.LocalLowering.{shifted_below}
 use Rattle.std.proofs.Math.Bool.{or-true}
-use Rattle.std.proofs.lemmas.Bool.{cond_both}
 use Rattle.std.proofs.Math.Nat.{div-le_self}
 
 -- ---- numbers

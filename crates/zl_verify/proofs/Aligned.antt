@@ -1,12 +1,12 @@
 -- What a call does and what its rule says are the same columns of the table, at values and at registers.
 use Rattle.zl_verify.proofs.Common.{AbsVal, AllByRecursion, Bool, CallInstr, CallName, Cpu, Ending, List, None, Operand, Option, Site, Some, State, TRANSFER}
-use Rattle.zl_verify.proofs.Common.{Uses, WRITE, Word, [], any, ap, are_registers, arith, both, call_reading, call_row, cond, condition_of, drop, false}
-use Rattle.zl_verify.proofs.Common.{handle_operands, is_call_in_range, list_all, map, names_registers, nat_le, nat_lt, nat_tests, needs, number_at, operands_at}
-use Rattle.zl_verify.proofs.Common.{operands_listed, received_in, refl, register_count, site_of, slice_index, suc, sym, taking, triple_results, true, uses_of}
-use Rattle.zl_verify.proofs.Common.{values_of, zero, zip, ℕ, ◌&&◌, ◌*◌, ◌++◌, ◌+◌, ◌<◌, ◌∙◌, ◌∷◌, ◌≡◌, ◌≤◌}
+use Rattle.zl_verify.proofs.Common.{Uses, WRITE, Word, [], any, ap, are_registers, arith, both, call_reading, call_row, cond, condition_of, consumes, drop}
+use Rattle.zl_verify.proofs.Common.{false, handle_operands, is_call_in_range, list_all, map, names_registers, nat_le, nat_lt, nat_tests, needs, number_at}
+use Rattle.zl_verify.proofs.Common.{operands_at, operands_listed, received_in, refl, register_count, site_of, slice_index, suc, sym, taking, triple_results}
+use Rattle.zl_verify.proofs.Common.{true, uses_of, values_of, zero, zip, ℕ, ◌&&◌, ◌*◌, ◌++◌, ◌+◌, ◌<◌, ◌∙◌, ◌∷◌, ◌≡◌, ◌≤◌}
 use Rattle.std.proofs.lemmas.List.{append-nil}
 use Rattle.zl_code.specs.Limits.{most_handles}
-use Rattle.zl_code.specs.Instructions.{Field, names, consumes, closes}
+use Rattle.zl_code.specs.Instructions.{Field, names, closes}
 use Rattle.zl_code.specs.Asked.{used, those, is_written, listed_in, triples_from}
 use Rattle.zl_code.specs.Refusals.{operand_by}
 use Rattle.zl_code.proofs.ImageCalls.{whole}

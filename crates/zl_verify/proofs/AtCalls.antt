@@ -1,12 +1,10 @@
 -- A process that conforms and stands at a call: the call, its site, and its rule, which holds there.
 use Rattle.zl_verify.proofs.Common.{AtCall, CallInstr, CallName, Cause, Condition, Cpu, Err, Image, Instr, IsStuck, None, Ok, Option, Process, Result}
 use Rattle.zl_verify.proofs.Common.{RuleHolds, Site, Some, StandsAtCall, State, Ways, World, and_then, ap, array_fault, both, bounds_of, by_policy, call_at}
-use Rattle.zl_verify.proofs.Common.{call_in, call_row, call_rule, calls_at, edges, goes_on, if◌then◌else◌, inl, inr, instr_at, is_call_in_range, is_declared}
-use Rattle.zl_verify.proofs.Common.{length, local_effect, moves, next_at, next_of, passes, ranges, refl, rule_with, site_of, stops, true, uses_of, with_all, ℕ}
-use Rattle.zl_verify.proofs.Common.{◌∙◌, ◌≡◌, ◌⊎◌}
-use Rattle.zl_code.specs.Instructions.{is_known}
+use Rattle.zl_verify.proofs.Common.{call_in, call_row, call_rule, calls_at, edges, goes_on, if◌then◌else◌, in_range_at, inl, inr, instr_at, is_call_in_range}
+use Rattle.zl_verify.proofs.Common.{is_declared, is_known, length, local_effect, moves, next_at, next_of, passes, ranges, refl, rule_with, site_of, stops, true}
+use Rattle.zl_verify.proofs.Common.{uses_of, with_all, ℕ, ◌∙◌, ◌≡◌, ◌⊎◌}
 use Rattle.zl_code.specs.declared.instr.Instr.TheVariants as instr
-use Rattle.zl_abs.proofs.FineRules.{in_range_at}
 use Rattle.zl_verify.proofs.Aligned.{aligned}
 use Rattle.zl_verify.proofs.Standing.{has_rule, may_empty, Stands}
 

@@ -1,18 +1,15 @@
 -- A process that waits as its typing says gets an answer that fits: then it stands at the end of a followed edge, as the typing says there.
 use Rattle.zl_verify.proofs.Common.{ANY, AreCountersAt, Blocked, Bool, CallInstr, CallName, Cause, Conforms, Err, Holds, Image, Instr, IsMemory, IsSizedPacket}
 use Rattle.zl_verify.proofs.Common.{IsTyping, Life, List, None, Ok, OneOf, Option, Packet, PacketAt, Process, Ready, Result, RuleHolds, SignalOf, Site, Some}
-use Rattle.zl_verify.proofs.Common.{State, Uses, WaitsAt, Ways, Word, World, [], and_then, answered, ap, arith, bounds_of, by_policy, call_at, call_in}
-use Rattle.zl_verify.proofs.Common.{call_rule, condition_of, cpu_answered, edges, ends_of, get, goes_on, handle_operands, if◌then◌else◌, inr, instr_at}
-use Rattle.zl_verify.proofs.Common.{is_call_in_range, is_in_range, length, packet_values, passes, port_wait, ranges, refl, reg, rounded, rule_with, site}
-use Rattle.zl_verify.proofs.Common.{site_of, slice_index, slice_set, stops, subst, sym, taken_handles, targets_of, true, uses_of, wait_one, waits_for, with_all}
-use Rattle.zl_verify.proofs.Common.{with_value, ℕ, ◌∙◌, ◌∷◌, ◌≡◌, ◌≤◌}
-use Rattle.zl_verify.proofs.Common.{both, call_row}
-use Rattle.zl_code.specs.Instructions.{is_known}
+use Rattle.zl_verify.proofs.Common.{State, Uses, WaitsAt, Ways, Word, World, [], and_then, answered, ap, arith, both, bounds_of, by_policy, call_at, call_in}
+use Rattle.zl_verify.proofs.Common.{call_row, call_rule, condition_of, cpu_answered, edges, ends_of, get, goes_on, handle_operands, if◌then◌else◌, in_range_at}
+use Rattle.zl_verify.proofs.Common.{inr, instr_at, is_call_in_range, is_in_range, is_known, length, packet_values, passes, port_wait, ranges, refl, reg}
+use Rattle.zl_verify.proofs.Common.{rounded, rule_with, site, site_of, slice_index, slice_set, stops, subst, sym, taken_handles, targets_of, true, uses_of}
+use Rattle.zl_verify.proofs.Common.{wait_one, waits_for, with_all, with_value, ℕ, ◌∙◌, ◌∷◌, ◌≡◌, ◌≤◌}
 use Rattle.zl_verify.specs.Conforms.{answered_in}
 use Rattle.zl_rights.specs.declared.status.Status.TheVariants as status
 use Rattle.zl_code.specs.declared.instr.Instr.TheVariants as instr
 use Rattle.zl_code.specs.declared.history.CallName.TheVariants as name
-use Rattle.zl_abs.proofs.FineRules.{in_range_at}
 use Rattle.zl_verify.proofs.LocalSteps.{reached}
 use Rattle.zl_verify.proofs.Refining.{Known}
 use Rattle.zl_verify.proofs.Agreeing.{Arrives}

@@ -1,22 +1,18 @@
 -- The block rule of an image in range: where its instructions lead by the code alone suits its blocks.
-use Rattle.zl_verify.proofs.Common.{AllByRecursion, Bool, Image, Instr, IsNested, IsTrue, List, LocalInstr, Mark, None, Option, Some, Targets, []}
-use Rattle.zl_verify.proofs.Common.{ahead, ap, arith}
-use Rattle.zl_verify.proofs.Common.{blocks_at, call_at, false, inl, inr, if◌then◌else◌, IfSome, is_in_range, is_pause, length, local_in, map}
-use Rattle.zl_verify.proofs.Common.{marks_of}
-use Rattle.zl_verify.proofs.Common.{nat_le, nat_lt, nat_tests, onward, option_to_list, place_within, places, places_at, ranges, refl, slice_get}
-use Rattle.zl_verify.proofs.Common.{subst, suc, sym, then_some}
-use Rattle.zl_verify.proofs.Common.{true, unless_pause, ℕ, ◌&&◌, ◌++◌, ◌+◌, ◌<◌, ◌∙◌, ◌∷◌, ◌≡◌, ◌≤◌, ◌⊎◌}
-use Rattle.std.proofs.lemmas.Option.{slice_get-map, slice_get_within}
-use Rattle.std.specs.Option.{option_map}
+use Rattle.zl_verify.proofs.Common.{AllByRecursion, Bool, IfSome, Image, Instr, IsNested, IsTrue, List, LocalInstr, Mark, None, Option, Some, Suits, Targets}
+use Rattle.zl_verify.proofs.Common.{[], ahead, ap, arith, blocks_at, call_at, false, head_of, if◌then◌else◌, imm_of, inl, inr, is_in_range, is_pause, length}
+use Rattle.zl_verify.proofs.Common.{local_at, local_in, map, mark_of, marks_of, nat_le, nat_lt, nat_tests, onward, option_map, option_to_list, place_within}
+use Rattle.zl_verify.proofs.Common.{places, places_at, ranges, refl, slice_get, slice_get-map, subst, suc, sym, then_some, true, unless_pause, ℕ, ◌&&◌, ◌++◌}
+use Rattle.zl_verify.proofs.Common.{◌+◌, ◌<◌, ◌∙◌, ◌∷◌, ◌≡◌, ◌≤◌, ◌⊎◌}
+use Rattle.std.proofs.lemmas.Option.{slice_get_within}
 use Rattle.zl_code.specs.declared.blocks.Mark.TheVariants as mark
 use Rattle.zl_code.specs.declared.instr.Instr.TheVariants as instr
 use Rattle.zl_code.specs.declared.instr.LocalInstr.TheVariants as local
-use Rattle.zl_code.specs.Blocks.{all_nest, all_stay, head_of, imm_of, mark_of, opened, tail_of}
-use Rattle.zl_code.specs.Image.{local_at}
+use Rattle.zl_code.specs.Blocks.{all_nest, all_stay, opened, tail_of}
 use Rattle.zl_code.specs.Jumps.{jump, jump_of}
 use Rattle.zl_code.proofs.Common.{and_parts}
 use Rattle.zl_code.proofs.Nested.{begins, blocks, jumps_stay}
-use Rattle.zl_verify.specs.Nested.{IsPacked, Suits}
+use Rattle.zl_verify.specs.Nested.{IsPacked}
 use Rattle.zl_verify.proofs.Walking.{blocks_next}
 
 pub count_marks : (code : List Instr) → length (marks_of code) ≡ length code

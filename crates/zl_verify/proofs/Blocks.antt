@@ -1,12 +1,9 @@
 -- The counters of blocks along edges: a rep gives one more, an endrep counts or drops it, and any other instruction leaves them.
-use Rattle.zl_verify.proofs.Common.{AreCountersAt, Bool, CallInstr, Cpu, IfSome, Image, Instr, List, LocalInstr, None, OneOf, Option, Some, [], ap}
-use Rattle.zl_verify.proofs.Common.{false}
-use Rattle.zl_verify.proofs.Common.{if◌then◌else◌, inl, inr, instr_at, local_effect, local_parts, option_map, refl, reg, slice_get, spots_to}
-use Rattle.zl_verify.proofs.Common.{suc, sym}
-use Rattle.zl_verify.proofs.Common.{IsTrue, State, arith, ends_of, is_in_range, length, nat_lt, nat_tests, same_Some, true, zero, ℕ, ◌+◌, ◌<◌, ◌∙◌}
-use Rattle.zl_verify.proofs.Common.{◌∷◌, ◌≡◌}
-use Rattle.std.proofs.lemmas.Option.{slice_get-map}
-use Rattle.zl_code.specs.Blocks.{AreCounters, blocks_at, end_of, imm_of, mark_of, marks_of}
+use Rattle.zl_verify.proofs.Common.{AreCountersAt, Bool, CallInstr, Cpu, IfSome, Image, Instr, IsTrue, List, LocalInstr, None, OneOf, Option, Some, State, []}
+use Rattle.zl_verify.proofs.Common.{ap, arith, blocks_at, end_of, ends_of, false, if◌then◌else◌, imm_of, inl, inr, instr_at, is_in_range, length, local_effect}
+use Rattle.zl_verify.proofs.Common.{local_parts, mark_of, marks_of, nat_lt, nat_tests, option_map, refl, reg, same_Some, slice_get, slice_get-map, spots_to}
+use Rattle.zl_verify.proofs.Common.{suc, sym, true, zero, ℕ, ◌+◌, ◌<◌, ◌∙◌, ◌∷◌, ◌≡◌}
+use Rattle.zl_code.specs.Blocks.{AreCounters}
 use Rattle.zl_code.specs.Local.{swaps_in, turns_by}
 use Rattle.zl_code.specs.declared.blocks.Mark.{Mark}
 use Rattle.zl_code.proofs.Nested.{fits}

@@ -1,12 +1,11 @@
 -- What a bound along the edges of a typing says of its step bound, and what is over of those of other typings.
-use Rattle.zl_verify.proofs.Common.{AllBelow, AllByRecursion, AreAmong, AreTargets, Bool, Cause, Edge, Err, Follow, Image, IsAbove, IsAmong, IsLeastTyping}
-use Rattle.zl_verify.proofs.Common.{IsNested, IsOver, IsOverBudget, IsStepBound, IsTyping, List, None, Ok, OneOf, Option, Result, RuleBelow, Some, Spot}
-use Rattle.zl_verify.proofs.Common.{State, Targets, [], arith, at, bounds_of, call_at, false, if◌then◌else◌, inl, inr, is_pause, leads, leads_by}
-use Rattle.zl_verify.proofs.Common.{leads_on, length, map, marks_of, refl, rule, rule_below, slice_get, spots, spots_from, spots_to, subst, suc, sym}
+use Rattle.zl_verify.proofs.Common.{AllBelow, AllByRecursion, AreAmong, AreTargets, Bool, Cause, Edge, Err, Follow, Image, IsAbove, IsAmong, IsBoundOf}
+use Rattle.zl_verify.proofs.Common.{IsLeastTyping, IsNested, IsOver, IsOverBudget, IsStepBound, IsTyping, IsUnbounded, List, None, Ok, OneOf, Option, Result}
+use Rattle.zl_verify.proofs.Common.{RuleBelow, Some, Spot, State, Targets, [], arith, at, bounds_of, call_at, false, if◌then◌else◌, inl, inr, is_pause, leads}
+use Rattle.zl_verify.proofs.Common.{leads_by, leads_on, length, map, marks_of, refl, rule, rule_below, slice_get, spots, spots_from, spots_to, subst, suc, sym}
 use Rattle.zl_verify.proofs.Common.{targets_of, true, ℕ, ◌∷◌, ◌≡◌, ◌≤◌}
 use Rattle.zl_abs.specs.Typing.{Holds}
 use Rattle.zl_verify.specs.declared.peaks.Unbounded.TheVariants as unbounded
-use Rattle.zl_verify.specs.Peaks.{IsBoundOf, IsUnbounded}
 use Rattle.zl_verify.proofs.Blocked.{count_marks}
 use Rattle.zl_verify.proofs.Walking.{Goes, bounded, narrower}
 use Rattle.zl_verify.proofs.Places.{mapped}

@@ -2,9 +2,9 @@
 use Rattle.zl_verify.proofs.Common.{AllBelow, AllByRecursion, Awaited, Blocked, CallInstr, Conforms, Ended, HasEnded, Image, IsFineItem, IsFitStep, IsSizedBoot}
 use Rattle.zl_verify.proofs.Common.{IsSomeAnd, IsStepBound, IsTyping, IsUnderWay, KILLED, KeepsBudget, Library, List, None, OneOf, Option, OthersLeave, Process}
 use Rattle.zl_verify.proofs.Common.{Ready, Runs, Some, Spot, State, Statement, TraceItem, World, [], ap, arith, call_in, cases_Bool, eqb-true, executed, false}
-use Rattle.zl_verify.proofs.Common.{get, has_ended, inl, inr, instr_at, is_in_range, is_pause, is_pause_name, leads_on, left_so, nat_le, nat_tests}
-use Rattle.zl_verify.proofs.Common.{pid_of, refl, runs, same_Some, slice_get, stays, subst, sym, true, was_killed, ℕ, ◌++◌, ◌-◌, ◌<◌, ◌==◌, ◌∙◌, ◌∷◌, ◌≡◌, ◌≢◌}
-use Rattle.zl_verify.proofs.Common.{◌≤◌, ◌⊎◌}
+use Rattle.zl_verify.proofs.Common.{get, has_ended, inl, inr, instr_at, is_in_range, is_pause, is_pause_name, leads_on, left_so, nat_le, nat_tests, pid_of}
+use Rattle.zl_verify.proofs.Common.{refl, runs, runs_joined, same_Some, slice_get, stays, subst, sym, true, was_killed, ℕ, ◌++◌, ◌-◌, ◌<◌, ◌==◌, ◌∙◌, ◌∷◌, ◌≡◌}
+use Rattle.zl_verify.proofs.Common.{◌≢◌, ◌≤◌, ◌⊎◌}
 use Rattle.zl_code.specs.Headline.{left_behind}
 use Rattle.zl_code.specs.declared.instr.Instr.TheVariants as instr
 use Rattle.zl_verify.specs.WakeLaws.{wakes}
@@ -13,7 +13,6 @@ use Rattle.zl_verify.proofs.Woken.{fit_of, sound_before}
 use Rattle.zl_verify.proofs.Others.{others_end, over_after_act}
 use Rattle.zl_verify.proofs.Ended.{ended_still}
 use Rattle.zl_verify.proofs.OwnSteps.{fine_other, Went, goes, pauses, Stopped, by_exit, by_kill, under_way, under_way_steps}
-use Rattle.zl_code.proofs.AwakeRuns.{runs_joined}
 
 -- who is over takes no step
 no_step : (lib : Library) (w : World) (p : ℕ) (x : TraceItem) (w2 : World) → IsFitStep lib w p x w2 → HasEnded w p → ⊥

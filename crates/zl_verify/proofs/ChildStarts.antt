@@ -3,12 +3,13 @@ use Rattle.zl_code.proofs.Common.{by_look_up, ends_if_kill, faults, granted}
 use Rattle.zl_verify.proofs.Common.{ANY, Action, Acts, AllByRecursion, AreUnstarted, AtCall, Bool, CallBy, Calls, Choice, Condition, Entry, Err, Image}
 use Rattle.zl_verify.proofs.Common.{IsFitStep, IsRunStep, IsSizedBoot, IsSound, IsStarted, Kind, Library, List, None, Ok, Operand, Option, Outcome, Process}
 use Rattle.zl_verify.proofs.Common.{Program, Ready, Refused, Request, Runs, Site, Some, Start, StartsChild, Statement, Status, TraceItem, Values, Wants, World}
-use Rattle.zl_verify.proofs.Common.{[], action_of, ap, are_declared, bits, by_policy, condition_of, contains, creates, effect, entry_at, examined, false}
-use Rattle.zl_verify.proofs.Common.{first_some, get, gives_ok, handle_operands, if◌then◌else◌, is_created, is_only_start, is_process, listed, may_choose}
-use Rattle.zl_verify.proofs.Common.{may_get, may_get_all, may_want, misfits, new_handles, next_in, not, not-false, object_at, on_process, operand}
-use Rattle.zl_verify.proofs.Common.{operand_after, option_map, option_to_list, parent_of, pid_of, process_start, process_with, program_in, program_of, refl}
-use Rattle.zl_verify.proofs.Common.{refusal, replied, same_Some, seen_after, slice_get, started_with, state_passes, subst, sym, taken, taken_handles}
-use Rattle.zl_verify.proofs.Common.{takes, true, unless_allowed, with_effect, within, ℕ, ◌&&◌, ◌++◌, ◌==◌, ◌∙◌, ◌∷◌, ◌≡◌, ◌≤◌}
+use Rattle.zl_verify.proofs.Common.{[], action_of, and-false, ap, are_declared, bits, by_policy, condition_of, contains, creates, effect, entry_at, examined}
+use Rattle.zl_verify.proofs.Common.{false, first_some, get, gives_ok, handle_operands, if◌then◌else◌, is_created, is_only_start, is_process, left_other, listed}
+use Rattle.zl_verify.proofs.Common.{listed_none, may_choose, may_get, may_get_all, may_want, misfits, new_handles, next_in, not, not-false, object_at}
+use Rattle.zl_verify.proofs.Common.{on_process, operand, operand_after, option_map, option_to_list, parent_of, pid_of, process_start, process_with, program_in}
+use Rattle.zl_verify.proofs.Common.{program_of, refl, refusal, replied, replied_other, runs_joined, same_Some, seen_after, slice_get, started_with}
+use Rattle.zl_verify.proofs.Common.{state_passes, subst, sym, taken, taken_handles, takes, test_fails, true, unless_allowed, with_effect, within, ℕ, ◌&&◌, ◌++◌}
+use Rattle.zl_verify.proofs.Common.{◌==◌, ◌∙◌, ◌∷◌, ◌≡◌, ◌≤◌}
 use Rattle.zl_rights.specs.declared.policy.Action.TheVariants as action
 use Rattle.zl_rights.specs.declared.policy.Condition.TheVariants as condition
 use Rattle.zl_rights.specs.declared.status.Status.TheVariants as status
@@ -16,21 +17,17 @@ use Rattle.zl_code.specs.declared.history.CallName.TheVariants as name
 use Rattle.zl_code.specs.declared.history.Outcome.TheVariants as outcome
 use Rattle.zl_code.specs.declared.history.TraceItem.TheVariants as item
 use Rattle.zl_verify.proofs.Ordinary.{is_good, AreOrdinary, listed_ordinary}
-use Rattle.zl_code.proofs.Passing.{listed_none, test_fails}
 use Rattle.zl_verify.proofs.OwnEffect.{starts_created, no_child, same_policy}
 use Rattle.zl_verify.proofs.AtCalls.{at_call}
-use Rattle.zl_code.proofs.Frame.{left_other, replied_other}
 use Rattle.zl_verify.proofs.Others.{left_by_step}
 use Rattle.zl_verify.proofs.Giving.{getting_all}
 use Rattle.zl_verify.proofs.OwnTable.{other_way}
 use Rattle.zl_verify.proofs.SizedCalls.{IsSizedRequest, request_sized}
 use Rattle.zl_verify.proofs.Woken.{fit_of, sound_before, settled_there, allowed_after}
 use Rattle.zl_verify.proofs.Ended.{awake_still}
-use Rattle.zl_code.proofs.AwakeRuns.{runs_joined}
 use Rattle.zl_verify.proofs.BootStarts.{is_booted}
 use Rattle.zl_verify.proofs.Unstarted.{inserted_at, changed_at}
 use Rattle.zl_verify.proofs.UnstartedRuns.{lives_new, step_unstarted}
-use Rattle.std.proofs.Math.Bool.{and-false}
 
 -- ---- a refusal isn't OK
 

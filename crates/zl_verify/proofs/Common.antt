@@ -1,5 +1,6 @@
 -- The names that two proofs of this crate or more cite, passed on from one place. Declares nothing.
 pub use Rattle.std.proofs.Common.{Err, None, Ok, Option, Result, Some, leb, max, zip, ⊎_elim, ◌↔◌}
+pub use Rattle.zl_code.proofs.AwakeRuns.{runs_joined}
 pub use Rattle.zl_code.proofs.Common.{Acts, AtCall, Awaited, Blocked, Body, Bool, Boots, CallBy, Calls, ChannelEnd, Choice, Cpu, Created, Ended, EventBody}
 pub use Rattle.zl_code.proofs.Common.{HandlesAreSound, IfOk, IfSome, Image, IsSound, IsStuck, IsTrue, JobBody, KILLED, Library, List, Map, Message, Moves, Next}
 pub use Rattle.zl_code.proofs.Common.{Object, Operand, Packet, PacketAt, PairEnd, PortBody, Process, ProcessBody, Program, READ, Ready, Refused, Request, Runs}
@@ -13,33 +14,35 @@ pub use Rattle.zl_code.proofs.Common.{has_key, if◌then◌else◌, inl, inr, is
 pub use Rattle.zl_code.proofs.Common.{is_some, is_value, job_create, job_set_policy, job_within, keeping, kept_by, kind_number, length, length-map, list_all}
 pub use Rattle.zl_code.proofs.Common.{list_any, lives, ltb, map, may_boot, may_get, may_get_after, may_get_all, may_want, meets, min, nat_le, nat_lt, nat_tests}
 pub use Rattle.zl_code.proofs.Common.{next_for, none-some, not, number_at, number_of, object_at, object_killed, ok_outcome, operand_after, option_map}
-pub use Rattle.zl_code.proofs.Common.{option_to_list, origin, outcome_of, packet_values, packets_for, packets_in, parent_in, parent_of, pid_of, port_cancel}
-pub use Rattle.zl_code.proofs.Common.{port_create, port_poll, port_queue, port_wait, position, process_create, process_ended, process_exit, process_killed}
-pub use Rattle.zl_code.proofs.Common.{process_settled, process_start, process_with, process_with_all, process_without, queue_at, queue_of, receiver_of, refl}
-pub use Rattle.zl_code.proofs.Common.{replace, replicate, rights_of, runs, same_Some, seen_after, setting, signal, signal_peer, single, site, slice_get}
-pub use Rattle.zl_code.proofs.Common.{slice_get-get_or, slice_index, slice_index_or, slice_set, slots_filled, started_with, state_passes, state_without}
-pub use Rattle.zl_code.proofs.Common.{stored_by, storing, subst, suc, sum_by, sum_by-cons, sym, take, taken, takes, task_kill, then_some, true, unless_allowed}
-pub use Rattle.zl_code.proofs.Common.{wait_async, wait_one, wait_poll, waiting, with_body, with_effect, within, woken_at_port, woken_by, woken_by_first}
-pub use Rattle.zl_code.proofs.Common.{woken_from, woken_if_there, zero, ℕ, ℤ, ⊤, ◌&&◌, ◌*◌, ◌++◌, ◌+◌, ◌-◌, ◌/◌, ◌<◌, ◌==◌, ◌^◌, ◌||◌, ◌∙◌, ◌∷◌, ◌≡◌, ◌≢◌, ◌≤◌}
-pub use Rattle.zl_code.proofs.Common.{◌⊎◌}
+pub use Rattle.zl_code.proofs.Common.{option_to_list, or_right, origin, outcome_of, packet_values, packets_for, packets_in, parent_in, parent_of, pid_of}
+pub use Rattle.zl_code.proofs.Common.{port_cancel, port_create, port_poll, port_queue, port_wait, position, process_create, process_ended, process_exit}
+pub use Rattle.zl_code.proofs.Common.{process_killed, process_settled, process_start, process_with, process_with_all, process_without, queue_at, queue_of}
+pub use Rattle.zl_code.proofs.Common.{receiver_of, refl, replace, replicate, rights_of, runs, same_Some, seen_after, setting, signal, signal_peer, single, site}
+pub use Rattle.zl_code.proofs.Common.{slice_get, slice_get-get_or, slice_index, slice_index_or, slice_set, slots_filled, started_with, state_passes}
+pub use Rattle.zl_code.proofs.Common.{state_without, stored_by, storing, subst, suc, sum_by, sum_by-cons, sym, take, taken, takes, task_kill, then_some, true}
+pub use Rattle.zl_code.proofs.Common.{unless_allowed, wait_async, wait_one, wait_poll, waiting, with_body, with_effect, within, woken_at_port, woken_by}
+pub use Rattle.zl_code.proofs.Common.{woken_by_first, woken_from, woken_if_there, zero, ℕ, ℤ, ⊤, ◌&&◌, ◌*◌, ◌++◌, ◌+◌, ◌-◌, ◌/◌, ◌<◌, ◌==◌, ◌^◌, ◌||◌, ◌∙◌, ◌∷◌}
+pub use Rattle.zl_code.proofs.Common.{◌≡◌, ◌≢◌, ◌≤◌, ◌⊎◌}
 unfoldable pub use Rattle.zl_code.proofs.Common.{active, answered, boot_effect, creates, effect, ended, examined, fired, get, gives_ok, gives_refused}
 unfoldable pub use Rattle.zl_code.proofs.Common.{handle_operands, has_child_job, has_child_process, insert_all, is_process, is_within, listed, local_effect}
 unfoldable pub use Rattle.zl_code.proofs.Common.{local_parts, made_ready, may_choose, new_handles, next_at, on_object, on_process, operand, put, refusal}
 unfoldable pub use Rattle.zl_code.proofs.Common.{remove_all, replied, setting_of, site_of, taken_handles, wakes, with_killed, with_object, without}
 unfoldable pub use Rattle.zl_code.proofs.Common.{without_others, woken}
+pub use Rattle.std.proofs.Math.Bool.{and-false}
 pub use Rattle.std.proofs.Math.ListN.{length-replicate, length-set}
 pub use Rattle.std.proofs.Math.Nat.{div-mul-le_self, mod-le, mod-lt, mul-le-mul_right}
-pub use Rattle.std.proofs.lemmas.Bool.{and_parts as both, cases_eq, eqb-false, false≢true, not-false}
-pub use Rattle.std.proofs.lemmas.List.{get_or-set_other, get_or-set_same}
+pub use Rattle.std.proofs.lemmas.Bool.{and_parts as both, cases_eq, cond_both, eqb-false, false≢true, not-false}
+pub use Rattle.std.proofs.lemmas.List.{get_or-drop, get_or-set_other, get_or-set_same}
+pub use Rattle.std.proofs.lemmas.List.Elements.{filter-append}
 pub use Rattle.std.proofs.lemmas.List.Sums.{sum_by-set}
 pub use Rattle.std.proofs.lemmas.Nat.{and_assoc, and_comm, and_le_l, and_le_r, le-div, or_lt, pow_pos, xor_lt}
-pub use Rattle.std.proofs.lemmas.Option.{get_or_from_slice_get}
+pub use Rattle.std.proofs.lemmas.Option.{get_or_from_slice_get, slice_get-map}
 pub use Rattle.std.specs.List.{AllByRecursion, Contains, concat, filter, fold, position_or_len}
 unfoldable pub use Rattle.std.specs.List.{IsDistinct}
-pub use Rattle.std.specs.Option.{option_and_then}
+pub use Rattle.std.specs.Option.{option_and_then, option_map}
 pub use Rattle.std.specs.Prelude.{IsSomeAnd, unwrap_or, ◌%◌}
-pub use Rattle.zl_abs.proofs.FineRules.{rule_fine}
-pub use Rattle.zl_abs.proofs.FineStates.{fine_joined, start_fine}
+pub use Rattle.zl_abs.proofs.FineRules.{in_range_at, rule_fine}
+pub use Rattle.zl_abs.proofs.FineStates.{fine_joined, start_fine, with_long}
 pub use Rattle.zl_abs.proofs.Order.{kind_trans, parts, same_kind_refl, within_is, within_trans}
 pub use Rattle.zl_abs.proofs.RuleLowering.{rule_below}
 pub use Rattle.zl_abs.proofs.StateOrder.{all_below_refl, all_below_trans}
@@ -67,18 +70,21 @@ pub use Rattle.zl_abs.specs.declared.value.AbsVal.TheVariants.{Has, KindOf, Righ
 pub use Rattle.zl_code.proofs.CallRows.{asks_again}
 pub use Rattle.zl_code.proofs.Called.{called}
 pub use Rattle.zl_code.proofs.Entering.{get_without, gone_without, left_behind}
+pub use Rattle.zl_code.proofs.Frame.{ended_other, kept_other, left_other, replied_other, stored_other, waiting_other}
 pub use Rattle.zl_code.proofs.ImageRanges.{ranges}
 pub use Rattle.zl_code.proofs.MapKept.{Each}
+pub use Rattle.zl_code.proofs.Passing.{listed_none, test_fails, test_passes}
 pub use Rattle.zl_code.proofs.SoundRuns.{IsBooting, boot_sound, origin_booting, run_sound, step_keeps_processes, step_sound, still_booting}
-pub use Rattle.zl_code.specs.Asked.{has_its_memory, room_in}
+pub use Rattle.zl_code.specs.Asked.{has_its_memory, room_in, zeros_in_front}
 pub use Rattle.zl_code.specs.Boot.{are_declared}
 pub use Rattle.zl_code.specs.CallTable.{handle_info, name_of}
 pub use Rattle.zl_code.specs.Calls.{zeros_for}
-pub use Rattle.zl_code.specs.Effects.{body_after_read, body_with_message, gets_all, new_entry, signed_word, told_of, with_process}
+pub use Rattle.zl_code.specs.Effects.{body_after_read, body_with_message, filled_in, gets_all, new_entry, signed_word, slots_filled, told_of, with_process}
 pub use Rattle.zl_code.specs.Handles.{Throughout, has_default_rights}
 pub use Rattle.zl_code.specs.Headline.{CoveredGoWell, EndsItself, HasNoFault, IsNeverRefused, IsNotStuck, IsProperStart, IsSizedBoot, IsStarted, KeepsBudget}
 pub use Rattle.zl_code.specs.Headline.{MayEnd, StartsChild, WasStarted, by_boot, by_call, executed, is_fault, is_pause_name, word_of}
-pub use Rattle.zl_code.specs.Image.{call_at, call_in, instr_at, local_in}
+pub use Rattle.zl_code.specs.Image.{blank_image, call_at, call_in, instr_at, local_at, local_in}
+pub use Rattle.zl_code.specs.Instructions.{consumes, is_known}
 pub use Rattle.zl_code.specs.Jobs.{has_child, is_allowing, is_dead, is_only_start, lacks_need, misfits, policy_changed}
 pub use Rattle.zl_code.specs.Limits.{register_count}
 pub use Rattle.zl_code.specs.Local.{is_in_memory, overwritten, reg, sets, swaps}
@@ -112,7 +118,8 @@ pub use Rattle.zl_rights.specs.declared.policy.Action.{Action}
 pub use Rattle.zl_rights.specs.declared.policy.Condition.{Condition}
 pub use Rattle.zl_rights.specs.declared.rights.Rights.{Rights}
 pub use Rattle.zl_rights.specs.declared.status.Status.{Status}
-pub use Rattle.zl_verify.specs.Ahead.{AreAhead, ahead, jump_in, onward, place_within}
+pub use Rattle.zl_verify.specs.Ahead.{AreAhead, ahead, jump_in, may_jump, onward, place_within}
+pub use Rattle.zl_verify.specs.Peaks.{AreHomes, ArePeaks, IsBoundOf, IsUnbounded, lengths, or_most, turns_left}
 pub use Rattle.zl_verify.specs.Stretches.{AreStretches, Stretches, Out, stretch, inner_of, known, known_by, leaves_first, leaves_last, out_from, passed_on}
 pub use Rattle.zl_verify.specs.Stretches.{start_of, states_of}
 unfoldable pub use Rattle.zl_verify.specs.Stretches.{flows, inner, leaves, out}
@@ -128,15 +135,16 @@ pub use Rattle.zl_verify.specs.Lists.{at}
 pub use Rattle.zl_verify.specs.Marks.{AreMarked, AreNumbered}
 pub use Rattle.zl_verify.specs.NoLeak.{HoldsJustItsHandles, handle_values}
 unfoldable pub use Rattle.zl_verify.specs.NoLeak.{values_in_registers, values_in_slots}
-pub use Rattle.zl_verify.specs.Nested.{IsNested, IsPacked, places, places_at, places_by, spots_from}
-pub use Rattle.zl_code.specs.Blocks.{AreCounters, marks_of}
+pub use Rattle.zl_verify.specs.Nested.{IsNested, IsPacked, Suits, places, places_at, places_by, spots_from}
+pub use Rattle.zl_code.specs.Blocks.{AreCounters, end_of, head_of, imm_of, mark_of, marks_of}
 unfoldable pub use Rattle.zl_code.specs.Blocks.{blocks_at}
 pub use Rattle.zl_code.specs.declared.blocks.Mark.{Mark}
 pub use Rattle.zl_verify.specs.RunLaws.{HasEnded, IsFineItem, IsUnderWay}
 pub use Rattle.zl_verify.specs.Search.{cleared, raised, raised_over, turned_over}
 unfoldable pub use Rattle.zl_verify.specs.Search.{raised_all}
 pub use Rattle.zl_verify.specs.SizedLaws.{CpusAreSized, IsSized, IsSizedCpu, IsSizedObject, IsSizedWait}
-pub use Rattle.zl_verify.specs.Steps.{AllBelow, AreCountersAt, Follow, IsOver, IsStepBound, OneOf, Spot, is_pause, leads, leads_by, leads_on, spots}
-pub use Rattle.zl_verify.specs.Steps.{spots_to, targets_of}
+pub use Rattle.zl_verify.specs.Steps.{AllBelow, AreCountersAt, Follow, IsOver, IsStepBound, OneOf, Spot, is_pause, leads, leads_by, leads_on, spots, spots_to}
+pub use Rattle.zl_verify.specs.Steps.{targets_of}
 pub use Rattle.zl_verify.specs.WakeLaws.{EndsStep, IsFitStep, IsRunStep, OthersLeave, left_so, stays, was_killed}
+pub use Rattle.zl_verify.specs.declared.steps.Longest.{Longest}
 pub use Rattle.zl_verify.specs.declared.steps.Targets.{Targets}

@@ -1,24 +1,21 @@
 -- The handles in the first places of a slot array leave the table, and these places become 0.
 use Rattle.zl_verify.proofs.Common.{ANY, AbsVal, Bool, Describes, Entry, Has, Holds, IsAs, IsHandle, IsState, IsTrue, Kind, KindOf, List, None, Operand, Option}
 use Rattle.zl_verify.proofs.Common.{Outcome, Rights, RightsOf, SlotArray, Some, State, TRANSFER, Table, Word, World, [], any, ap, arith, bits, can_be_named}
-use Rattle.zl_verify.proofs.Common.{cases_eq, cond, drop, eqb-true, false, filter, first_some, get_or-set_other, get_or-set_same, inl, inr}
-use Rattle.zl_verify.proofs.Common.{is_it, is_named_well, is_some, keepers, kind_in, length, length-replicate, map, nat_tests, not, one_if, operands_listed}
-use Rattle.zl_verify.proofs.Common.{option_map, overwritten, owners, owns, place_at, refl, replicate, rights_in, seen_after, slice_get, slice_get-get_or}
-use Rattle.zl_verify.proofs.Common.{slice_index, slice_index_or, slice_set, subst, suc, sum_by-cons, sum_by-set, sym, take, taking, true, value_at, within}
-use Rattle.zl_verify.proofs.Common.{within_trans, zero, zeros_for, ℕ, ◌++◌, ◌+◌, ◌<◌, ◌==◌, ◌∙◌, ◌∷◌, ◌≡◌, ◌≢◌, ◌≤◌, ◌⊎◌}
+use Rattle.zl_verify.proofs.Common.{cases_eq, cond, consumes, drop, eqb-true, false, filter, filter-append, first_some, get_or-set_other, get_or-set_same, inl}
+use Rattle.zl_verify.proofs.Common.{inr, is_it, is_named_well, is_some, keepers, kind_in, length, length-replicate, map, nat_tests, not, one_if}
+use Rattle.zl_verify.proofs.Common.{operands_listed, option_map, overwritten, owners, owns, place_at, refl, replicate, rights_in, seen_after, slice_get}
+use Rattle.zl_verify.proofs.Common.{slice_get-get_or, slice_index, slice_index_or, slice_set, slots_filled, subst, suc, sum_by-cons, sum_by-set, sym, take}
+use Rattle.zl_verify.proofs.Common.{taking, true, value_at, within, within_trans, zero, zeros_for, ℕ, ◌++◌, ◌+◌, ◌<◌, ◌==◌, ◌∙◌, ◌∷◌, ◌≡◌, ◌≢◌, ◌≤◌, ◌⊎◌}
 use Rattle.std.proofs.lemmas.List.{append_assoc, get_or_at, length-append, map-append, map-set, set-get_or}
-use Rattle.std.proofs.lemmas.List.Elements.{filter-append}
 use Rattle.std.proofs.lemmas.List.Sums.{sum_by-append}
 use Rattle.zl_abs.specs.CallRules.{ArrayUse, sends}
 use Rattle.zl_code.specs.Asked.{filled_among}
-use Rattle.zl_code.specs.Effects.{slots_filled}
 use Rattle.zl_verify.proofs.Owners.{it_is_itself, keepers-at, keepers-zero, not_0, one_at_most, owners-at, owners-zero, owns_it, places_with}
 use Rattle.zl_verify.proofs.Writing.{live_apart, nothing_at_0}
 use Rattle.zl_verify.proofs.Consuming.{removed}
 use Rattle.zl_verify.proofs.Moving.{array_there}
 use Rattle.zl_verify.proofs.Examining.{Reads, first_two, one_examined, seen_all, unseen, unseen_more, valued}
 use Rattle.zl_code.specs.Operands.{examined as examined_at}
-use Rattle.zl_code.specs.Instructions.{consumes}
 
 -- ---- other slots beside the same registers
 

@@ -1,17 +1,18 @@
 -- Handle operands that pass by the rule aren't refused by the call, and those that are consumed leave the table.
 use Rattle.zl_verify.proofs.Common.{AbsVal, AllByRecursion, Bool, Cause, Describes, Entry, Has, Holds, IsAs, IsHandle, IsState, Kind, List, None, Ok, Operand}
 use Rattle.zl_verify.proofs.Common.{Option, Outcome, Rights, SlotArray, Some, State, Table, Word, World, [], and_then, ap, arith, bits, cases_eq, cond}
-use Rattle.zl_verify.proofs.Common.{contains, drop, entry_at, eqb-true, examined_all, examined_by, false, fault_of, filter, first_some, get_or-set_other}
-use Rattle.zl_verify.proofs.Common.{if◌then◌else◌, inl, inr, kind_below, kind_number, length, list_all, list_any, map, nat_tests, not, operand, operand_after}
-use Rattle.zl_verify.proofs.Common.{refl, register_count, seen_after, slice_index, slice_set, subst, sym, taken_from, takes, takes_any, true, untagged}
-use Rattle.zl_verify.proofs.Common.{value_at, with_value, within, within_trans, written, ℕ, ⊎_elim, ◌&&◌, ◌<◌, ◌==◌, ◌||◌, ◌∙◌, ◌∷◌, ◌≡◌, ◌≢◌, ◌≤◌, ◌⊎◌}
+use Rattle.zl_verify.proofs.Common.{cond_both, contains, drop, entry_at, eqb-true, examined_all, examined_by, false, fault_of, filter, first_some}
+use Rattle.zl_verify.proofs.Common.{get_or-set_other, if◌then◌else◌, inl, inr, kind_below, kind_number, length, list_all, list_any, map, nat_tests, not}
+use Rattle.zl_verify.proofs.Common.{operand, operand_after, refl, register_count, seen_after, slice_index, slice_set, subst, sym, taken_from, takes, takes_any}
+use Rattle.zl_verify.proofs.Common.{true, untagged, value_at, with_value, within, within_trans, written, ℕ, ⊎_elim, ◌&&◌, ◌<◌, ◌==◌, ◌||◌, ◌∙◌, ◌∷◌, ◌≡◌, ◌≢◌}
+use Rattle.zl_verify.proofs.Common.{◌≤◌, ◌⊎◌}
 use Rattle.zl_code.specs.Operands.{examined as examined_at}
 use Rattle.zl_abs.specs.declared.cause.Cause.TheVariants as cause
 use Rattle.zl_verify.proofs.Owners.{value_at-with, value_at-here}
 use Rattle.zl_verify.proofs.Tagging.{states_with}
 use Rattle.zl_verify.proofs.Consuming.{removed, consume, consume_0}
 use Rattle.zl_verify.proofs.Fitting.{apart_then}
-use Rattle.std.proofs.lemmas.Bool.{cond_both, and_parts}
+use Rattle.std.proofs.lemmas.Bool.{and_parts}
 
 -- ---- one operand
 

@@ -1,14 +1,11 @@
 -- The numbers of places with counters fall along the edges.
-use Rattle.zl_verify.proofs.Common.{AllBelow, AllByRecursion, AreCounters, IfSome, IsNested, List, Mark, None, Option, Some, Spot, Targets, [], ap, arith}
-use Rattle.zl_verify.proofs.Common.{blocks_at, inl, inr, length, max, min, option_to_list, refl, slice_get, spots, spots_from, suc, zero, ℕ}
-use Rattle.zl_verify.proofs.Common.{◌++◌, ◌+◌, ◌-◌, ◌<◌, ◌∙◌, ◌∷◌, ◌≡◌, ◌≤◌}
+use Rattle.zl_verify.proofs.Common.{AllBelow, AllByRecursion, AreCounters, IfSome, IsNested, List, Longest, Mark, None, Option, Some, Spot, Suits, Targets, []}
+use Rattle.zl_verify.proofs.Common.{ap, arith, blocks_at, end_of, head_of, imm_of, inl, inr, length, max, min, option_to_list, or_most, refl, slice_get, spots}
+use Rattle.zl_verify.proofs.Common.{spots_from, suc, turns_left, zero, ℕ, ◌++◌, ◌+◌, ◌-◌, ◌<◌, ◌∙◌, ◌∷◌, ◌≡◌, ◌≤◌}
 use Rattle.zl_code.specs.declared.blocks.Mark.TheVariants as mark
-use Rattle.zl_code.specs.Blocks.{end_of, head_of, imm_of}
-use Rattle.zl_verify.specs.declared.steps.Longest.{Longest}
-use Rattle.zl_verify.specs.Nested.{Suits}
 use Rattle.zl_verify.specs.Longest.{AreLongest, IsKept, IsPairOf, at_end, best, best_of, cut, further, longest_from, pair_at, past, reach, reach_by, through}
 use Rattle.zl_verify.specs.Longest.{through_by, turned, way_by, way_to}
-use Rattle.zl_verify.specs.Peaks.{end_by, in_block, number, or_most, pair_in, turns_left}
+use Rattle.zl_verify.specs.Peaks.{end_by, in_block, number, pair_in}
 use Rattle.zl_verify.proofs.Places.{below_or_not, get_past, nowhere}
 use Rattle.zl_verify.proofs.Walking.{Block, Real, block_at, end_at, end_leads, less_one, no_turns, reach_best, reach_further, reach_turned, reach_uncut}
 use Rattle.zl_verify.proofs.Walking.{short_further, short_turned, turns_more}

@@ -1,17 +1,16 @@
 -- What answers give fits: a status, handles at free values, and handles with their kinds and rights.
 use Rattle.zl_verify.proofs.Common.{ANY, AbsVal, AllByRecursion, Bool, Entry, Has, IsAs, IsTrue, Kind, KindOf, List, None, Option, Process, Rights, RightsOf}
-use Rattle.zl_verify.proofs.Common.{Some, State, Status, Table, Word, and_comm, and_le_l, ap, arith, bit_and, bits, both, can_be_named, eq-eqb, eqb-true, false}
-use Rattle.zl_verify.proofs.Common.{get, get-put, get_or-set_other, get_or-set_same, has_key, inl, inr, is_some, is_value, kind_in, kind_number, length}
+use Rattle.zl_verify.proofs.Common.{Some, State, Status, Table, Word, [], and_comm, and_le_l, ap, arith, bit_and, bits, both, can_be_named, eq-eqb, eqb-true}
+use Rattle.zl_verify.proofs.Common.{false, get, get-put, get_or-set_other, get_or-set_same, has_key, inl, inr, is_some, is_value, kind_in, kind_number, length}
 use Rattle.zl_verify.proofs.Common.{list_all, may_get, may_get_after, may_get_all, nat_lt, nat_tests, not, process_with, refl, rights_in, rights_of}
-use Rattle.zl_verify.proofs.Common.{slice_index, slice_set, status_magnitude, subst, suc, sym, told_of, triple_results, true, value_at, with_value, within}
-use Rattle.zl_verify.proofs.Common.{within_is, zero, ℕ, ◌&&◌, ◌*◌, ◌+◌, ◌<◌, ◌==◌, ◌∙◌, ◌∷◌, ◌≡◌, ◌≤◌, []}
+use Rattle.zl_verify.proofs.Common.{slice_index, slice_set, status_magnitude, subst, suc, sym, told_of, triple_results, true, value_at, with_long, with_value}
+use Rattle.zl_verify.proofs.Common.{within, within_is, zero, ℕ, ◌&&◌, ◌*◌, ◌+◌, ◌<◌, ◌==◌, ◌∙◌, ◌∷◌, ◌≡◌, ◌≤◌}
 use Rattle.std.proofs.lemmas.List.{length-set}
 use Rattle.zl_rights.specs.declared.kind.Kind.TheVariants as kind
 use Rattle.zl_rights.specs.declared.status.Status.TheVariants as status
 use Rattle.zl_verify.proofs.Owners.{value_at-with, value_at-here}
 use Rattle.zl_verify.proofs.Consuming.{added}
 use Rattle.zl_verify.proofs.Fitting.{Fits}
-use Rattle.zl_abs.proofs.FineStates.{with_long}
 
 pub status_few : (s : Status) → status_magnitude s ≤ 30
 status_few status.Ok = omega arith

@@ -1,12 +1,13 @@
 -- A process that doesn't run: what a step makes of it, which starts it at most.
 use Rattle.zl_verify.proofs.Common.{Acts, AtCall, Awaited, Blocked, Bool, CallName, Calls, Created, Entry, IsStuck, Library, Life, List, Moves, Next, None}
 use Rattle.zl_verify.proofs.Common.{Option, Outcome, Process, Program, Ready, Request, Settles, Site, Some, StartsChild, Step, TraceItem, World, after_ok}
-use Rattle.zl_verify.proofs.Common.{after_refusal, answered, ap, asks_again, awaited_by, cases_Bool, created_process, effect, ended, entering_at, eqb-true}
-use Rattle.zl_verify.proofs.Common.{false, fired, get, get-each, get-put, gives_ok, gives_refused, inl, inr, insert_all, is_created, is_process, is_within}
-use Rattle.zl_verify.proofs.Common.{kept_by, lives, made_ready, name_of, new_handles, next_for, next_in, object_at, ok_outcome, on_object, on_process}
-use Rattle.zl_verify.proofs.Common.{option_map, process_create, process_killed, process_settled, process_start, put, receiver_of, refl, refusal, replied, runs}
-use Rattle.zl_verify.proofs.Common.{slice_get, started_with, state_passes, state_without, stored_by, subst, sym, taken, taken_handles, task_kill, true, waiting}
-use Rattle.zl_verify.proofs.Common.{wakes, with_effect, with_killed, with_object, without_others, ℕ, ◌==◌, ◌∙◌, ◌≡◌, ◌⊎◌}
+use Rattle.zl_verify.proofs.Common.{after_refusal, answered, ap, asks_again, awaited_by, cases_Bool, cond_both, created_process, effect, ended, ended_other}
+use Rattle.zl_verify.proofs.Common.{entering_at, eqb-true, false, fired, get, get-each, get-put, gives_ok, gives_refused, inl, inr, insert_all, is_created}
+use Rattle.zl_verify.proofs.Common.{is_process, is_within, kept_by, kept_other, left_other, lives, made_ready, name_of, new_handles, next_for, next_in}
+use Rattle.zl_verify.proofs.Common.{object_at, ok_outcome, on_object, on_process, option_map, process_create, process_killed, process_settled, process_start}
+use Rattle.zl_verify.proofs.Common.{put, receiver_of, refl, refusal, replied, replied_other, runs, slice_get, started_with, state_passes, state_without}
+use Rattle.zl_verify.proofs.Common.{stored_by, stored_other, subst, sym, taken, taken_handles, task_kill, true, waiting, waiting_other, wakes, with_effect}
+use Rattle.zl_verify.proofs.Common.{with_killed, with_object, without_others, ℕ, ◌==◌, ◌∙◌, ◌≡◌, ◌⊎◌}
 use Rattle.zl_rights.specs.declared.status.Status.TheVariants as status
 use Rattle.zl_code.specs.declared.history.CallName.TheVariants as name
 use Rattle.zl_code.specs.declared.history.Outcome.TheVariants as outcome
@@ -16,8 +17,6 @@ use Rattle.zl_verify.proofs.Waking.{turn_by_answer, wakes_by}
 use Rattle.zl_verify.proofs.OwnEffect.{starts_created}
 use Rattle.zl_verify.proofs.AtCalls.{IsAtCall, at_call}
 use Rattle.zl_verify.proofs.OwnTable.{changed_elsewhere, inserted_elsewhere}
-use Rattle.zl_code.proofs.Frame.{kept_other, left_other, stored_other, ended_other, waiting_other, replied_other}
-use Rattle.std.proofs.lemmas.Bool.{cond_both}
 
 -- no process of this koid runs
 abbrev pub IsIdle : World → ℕ → Type 0

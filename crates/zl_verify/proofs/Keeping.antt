@@ -1,11 +1,9 @@
 -- New handles go into the first places of a slot array, which were empty, and what a state describes is still so beside the table with them.
 use Rattle.zl_verify.proofs.Common.{ANY, Bool, Entry, Holds, IsAs, IsHandle, IsState, Kind, List, None, Option, Process, Rights, SlotArray, Some, State, Table}
-use Rattle.zl_verify.proofs.Common.{[], ap, arith, bits, both, cases_eq, cond, drop, eqb-true, false, get, get_or-set_other, get_or-set_same, inl, inr, is_it}
-use Rattle.zl_verify.proofs.Common.{is_some, keepers, length, map, may_get, may_get_all, nat_lt, nat_tests, one_if, owners, place_at, process_with, refl}
-use Rattle.zl_verify.proofs.Common.{same_Some, slice_get, slice_get-get_or, slice_index, slice_index_or, slice_set, subst, suc, sum_by-cons, sum_by-set, sym}
-use Rattle.zl_verify.proofs.Common.{true, zero, ℕ, ◌&&◌, ◌++◌, ◌+◌, ◌<◌, ◌==◌, ◌∙◌, ◌∷◌, ◌≡◌, ◌≢◌, ◌≤◌, ◌⊎◌}
-use Rattle.zl_code.specs.Asked.{zeros_in_front}
-use Rattle.zl_code.specs.Effects.{slots_filled, filled_in}
+use Rattle.zl_verify.proofs.Common.{[], ap, arith, bits, both, cases_eq, cond, drop, eqb-true, false, filled_in, get, get_or-set_other, get_or-set_same, inl}
+use Rattle.zl_verify.proofs.Common.{inr, is_it, is_some, keepers, length, map, may_get, may_get_all, nat_lt, nat_tests, one_if, owners, place_at, process_with}
+use Rattle.zl_verify.proofs.Common.{refl, same_Some, slice_get, slice_get-get_or, slice_index, slice_index_or, slice_set, slots_filled, subst, suc, sum_by-cons}
+use Rattle.zl_verify.proofs.Common.{sum_by-set, sym, true, zero, zeros_in_front, ℕ, ◌&&◌, ◌++◌, ◌+◌, ◌<◌, ◌==◌, ◌∙◌, ◌∷◌, ◌≡◌, ◌≢◌, ◌≤◌, ◌⊎◌}
 use Rattle.std.proofs.lemmas.List.{get_or-map, map-set, set-get_or}
 use Rattle.zl_verify.proofs.Consuming.{added}
 use Rattle.zl_verify.proofs.Emptying.{beside}

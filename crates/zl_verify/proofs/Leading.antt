@@ -1,9 +1,8 @@
 -- Where the instructions of a typing lead, from the edges that the code hands out.
-use Rattle.zl_verify.proofs.Common.{AreTargets, Bool, Cause, Err, Image, IsPacked, List, None, Ok, Option, Result, Some}
-use Rattle.zl_verify.proofs.Common.{State, Targets, [], ap, arith, at, call_at, false, flows, if◌then◌else◌, inl, inner, inner_of, inr, is_pause, known}
-use Rattle.zl_verify.proofs.Common.{known_by, leads, leads_by, length, length-set, map, option_to_list, passed_on, places, places_at, places_by, refl, rule}
-use Rattle.zl_verify.proofs.Common.{slice_get, slice_set, states_of, subst, suc, sym, true, unless_pause, ℕ, ◌++◌, ◌+◌, ◌<◌, ◌∙◌, ◌≡◌}
-use Rattle.zl_verify.proofs.Common.{◌≤◌, ◌⊎◌}
+use Rattle.zl_verify.proofs.Common.{AreTargets, Bool, Cause, Err, Image, IsPacked, List, None, Ok, Option, Result, Some, State, Targets, [], ap, arith, at}
+use Rattle.zl_verify.proofs.Common.{call_at, cond_both, false, flows, if◌then◌else◌, inl, inner, inner_of, inr, is_pause, known, known_by, leads, leads_by}
+use Rattle.zl_verify.proofs.Common.{length, length-set, map, option_to_list, passed_on, places, places_at, places_by, refl, rule, slice_get, slice_set}
+use Rattle.zl_verify.proofs.Common.{states_of, subst, suc, sym, true, unless_pause, ℕ, ◌++◌, ◌+◌, ◌<◌, ◌∙◌, ◌≡◌, ◌≤◌, ◌⊎◌}
 use Rattle.zl_abs.specs.declared.steps.Step.{Step}
 use Rattle.zl_abs.specs.declared.steps.Steps.{Steps}
 use Rattle.zl_abs.specs.Rule.{Edge as Lead}
@@ -12,7 +11,6 @@ use Rattle.zl_verify.specs.Lists.{within}
 use Rattle.zl_verify.specs.Leading.{flow_in, target_in}
 use Rattle.zl_verify.proofs.Places.{below_or_not, get_past, set_by}
 use Rattle.zl_verify.proofs.Filling.{length_listed, at_listed}
-use Rattle.std.proofs.lemmas.Bool.{cond_both}
 
 -- ---- one instruction
 

@@ -1,18 +1,16 @@
 -- Where the rule of an instruction holds, it leads to another, but for the exit.
 use Rattle.zl_verify.proofs.Common.{AbsVal, Bool, CallInstr, CallName, Cause, Edge, Err, Has, IfOk, Image, Instr, Kind, KindOf, List, LocalInstr, None, Ok}
 use Rattle.zl_verify.proofs.Common.{Option, Result, RightsOf, Some, State, Uses, Word, [], and_then, arith, becomes, below_ways, bounds_of, call_at, call_in}
-use Rattle.zl_verify.proofs.Common.{call_rule, call_rule_by, capped, edge_to, edges, eqb, equal_ways, false, goes_on, has_ways, if◌then◌else◌, instr_at}
-use Rattle.zl_verify.proofs.Common.{is_pause, is_pause_name, is_some, kind_numbered, kind_ways, known_kind, known_other, known_there, known_zero, length}
-use Rattle.zl_verify.proofs.Common.{local_rule, ltb, nat_tests, not, refined, refl, rule, rule_by, rule_with, same_kind, state_after, subst, target_of, true}
-use Rattle.zl_verify.proofs.Common.{unless, uses_of, value_at, zero_ways, ℕ, ◌&&◌, ◌++◌, ◌+◌, ◌||◌, ◌∷◌, ◌≡◌, ◌≢◌}
+use Rattle.zl_verify.proofs.Common.{call_rule, call_rule_by, capped, cond_both, edge_to, edges, eqb, equal_ways, false, goes_on, has_ways, if◌then◌else◌}
+use Rattle.zl_verify.proofs.Common.{instr_at, is_pause, is_pause_name, is_some, kind_numbered, kind_ways, known_kind, known_other, known_there, known_zero}
+use Rattle.zl_verify.proofs.Common.{length, local_rule, ltb, nat_tests, not, or_right, refined, refl, rule, rule_by, rule_with, same_kind, state_after, subst}
+use Rattle.zl_verify.proofs.Common.{target_of, true, unless, uses_of, value_at, zero_ways, ℕ, ◌&&◌, ◌++◌, ◌+◌, ◌||◌, ◌∷◌, ◌≡◌, ◌≢◌}
 use Rattle.zl_abs.specs.Outcome.{Outcome}
 use Rattle.zl_code.specs.declared.instr.Instr.TheVariants as instr
 use Rattle.zl_code.specs.declared.instr.LocalInstr.TheVariants as local
 use Rattle.zl_code.specs.declared.history.CallName.TheVariants as name
 use Rattle.zl_abs.specs.declared.cause.Cause.TheVariants as cause
 use Rattle.zl_verify.proofs.PassingOn.{then_on, one, passes_on}
-use Rattle.zl_code.proofs.Common.{or_right}
-use Rattle.std.proofs.lemmas.Bool.{cond_both}
 
 -- one of the two edges is followed
 abbrev HasWay : Outcome → Type 0

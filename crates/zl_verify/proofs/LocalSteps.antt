@@ -1,13 +1,11 @@
 -- The law of the local steps of a process that conforms.
 use Rattle.zl_verify.proofs.Common.{Bool, CallInstr, CallName, Cause, Condition, Conforms, Cpu, Edge, Entry, Err, HandlesAreSound, Holds, Image, Instr, IsAble}
 use Rattle.zl_verify.proofs.Common.{IsAbove, IsMemory, IsStuck, IsTrue, IsTyping, KNOWN_RIGHTS, Kind, List, LocalInstr, Moves, Next, None, Ok, OneOf, Option}
-use Rattle.zl_verify.proofs.Common.{Process, Ready, Result, RuleHolds, Site, Some, StandsBy, State, Table, WaitsAt, World, [], and_then, ap, bits, bounds_of}
-use Rattle.zl_verify.proofs.Common.{call_at, call_rule, calls_at, creates, default_rights_of, edge_to, edges, false, get, if◌then◌else◌, inl, inr, instr_at}
-use Rattle.zl_verify.proofs.Common.{is_among, is_in_range, is_local_in_range, is_some, leads, leads_on, length, local_effect, local_rule, moves, nat_lt}
-use Rattle.zl_verify.proofs.Common.{next_at, next_of, on_process, ranges, refl, rule_by, rule_with, site_of, subst, sym, target_of, targets_of, true, within}
-use Rattle.zl_verify.proofs.Common.{within_trans, ℕ, ◌++◌, ◌+◌, ◌∙◌, ◌∷◌, ◌≡◌, ◌≢◌, ◌⊎◌}
-use Rattle.zl_verify.proofs.Common.{both, local_parts}
-use Rattle.zl_code.specs.Instructions.{is_known}
+use Rattle.zl_verify.proofs.Common.{Process, Ready, Result, RuleHolds, Site, Some, StandsBy, State, Table, WaitsAt, World, [], and_then, ap, bits, both}
+use Rattle.zl_verify.proofs.Common.{bounds_of, call_at, call_rule, calls_at, creates, default_rights_of, edge_to, edges, false, get, if◌then◌else◌, in_range_at}
+use Rattle.zl_verify.proofs.Common.{inl, inr, instr_at, is_among, is_in_range, is_known, is_local_in_range, is_some, leads, leads_on, length, local_effect}
+use Rattle.zl_verify.proofs.Common.{local_parts, local_rule, moves, nat_lt, next_at, next_of, on_process, ranges, refl, rule_by, rule_with, site_of, subst, sym}
+use Rattle.zl_verify.proofs.Common.{target_of, targets_of, true, within, within_trans, ℕ, ◌++◌, ◌+◌, ◌∙◌, ◌∷◌, ◌≡◌, ◌≢◌, ◌⊎◌}
 use Rattle.zl_abs.specs.Outcome.{Outcome}
 use Rattle.zl_verify.specs.LocalLaws.{GoesOn}
 use Rattle.zl_rights.specs.declared.kind.Kind.TheVariants as kind
@@ -20,7 +18,6 @@ use Rattle.zl_verify.proofs.CallSites.{IsGiven, memory_there}
 use Rattle.zl_verify.proofs.Sites.{has_site}
 use Rattle.zl_verify.proofs.Blocks.{can_turn, follows_along}
 use Rattle.zl_verify.proofs.Suiting.{counted_there, typed_leads}
-use Rattle.zl_abs.proofs.FineRules.{in_range_at}
 
 -- ---- facts of an image and of a world
 

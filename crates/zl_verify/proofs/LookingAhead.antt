@@ -1,20 +1,15 @@
 -- The edges that are followed from an instruction, at any state, are among those of the code alone, so what bounds
 -- these bounds those.
-use Rattle.zl_verify.proofs.Common.{AllByRecursion, AreAhead, Bool, CallInstr, Cause, Edge, Err, IfOk, Image, Instr, IsNested, IsPacked, IsTrue, List}
-use Rattle.zl_verify.proofs.Common.{LocalInstr, None, Ok, Option}
-use Rattle.zl_verify.proofs.Common.{Result, Some, State, Targets, [], and_then, arith, at, bounds_of, call_at, call_rule, edge_to, edges, false}
-use Rattle.zl_verify.proofs.Common.{goes_on, if◌then◌else◌, inl, inr, instr_at, is_in_range, is_pause, leads, leads_by, length, length-set, local_in}
-use Rattle.zl_verify.proofs.Common.{onward, place_within, ahead}
-use Rattle.zl_verify.proofs.Common.{local_parts, local_rule, map, marks_of, nat_lt, option_to_list, passes, places, places_by, refl, rule}
-use Rattle.zl_verify.proofs.Common.{rule_by, rule_with, slice_get, slice_set, state_after, stops, subst, target_of, targets_of, then_some, true}
-use Rattle.zl_verify.proofs.Common.{unless_pause}
-use Rattle.zl_verify.proofs.Common.{uses_of, ℕ, ◌&&◌, ◌++◌, ◌+◌, ◌<◌, ◌∙◌, ◌∷◌, ◌≡◌, ◌≤◌}
-use Rattle.zl_code.specs.Image.{local_at}
+use Rattle.zl_verify.proofs.Common.{AllByRecursion, AreAhead, Bool, CallInstr, Cause, Edge, Err, IfOk, Image, Instr, IsBoundOf, IsNested, IsPacked, IsTrue}
+use Rattle.zl_verify.proofs.Common.{List, LocalInstr, Longest, None, Ok, Option, Result, Some, State, Targets, [], ahead, and_then, arith, at, bounds_of}
+use Rattle.zl_verify.proofs.Common.{call_at, call_rule, edge_to, edges, false, goes_on, if◌then◌else◌, inl, inr, instr_at, is_in_range, is_pause, leads}
+use Rattle.zl_verify.proofs.Common.{leads_by, length, length-set, local_at, local_in, local_parts, local_rule, map, marks_of, may_jump, nat_lt, onward}
+use Rattle.zl_verify.proofs.Common.{option_to_list, passes, place_within, places, places_by, refl, rule, rule_by, rule_with, slice_get, slice_set, state_after}
+use Rattle.zl_verify.proofs.Common.{stops, subst, target_of, targets_of, then_some, true, unless_pause, uses_of, ℕ, ◌&&◌, ◌++◌, ◌+◌, ◌<◌, ◌∙◌, ◌∷◌, ◌≡◌, ◌≤◌}
 use Rattle.zl_abs.specs.Outcome.{Outcome}
-use Rattle.zl_verify.specs.declared.steps.Longest.{Longest}
 use Rattle.zl_abs.specs.LocalRules.{ends_turn, goes_round_again}
-use Rattle.zl_verify.specs.Ahead.{BoundsAll, may_jump}
-use Rattle.zl_verify.specs.Peaks.{IsBoundOf, numbers_by}
+use Rattle.zl_verify.specs.Ahead.{BoundsAll}
+use Rattle.zl_verify.specs.Peaks.{numbers_by}
 use Rattle.zl_code.specs.declared.instr.Instr.TheVariants as instr
 use Rattle.zl_code.specs.declared.instr.LocalInstr.TheVariants as local
 use Rattle.zl_abs.specs.declared.cause.Cause.TheVariants as cause

@@ -1,7 +1,7 @@
 -- Numbers that are read from the data memory, and bytes that are written to it.
-use Rattle.zl_verify.proofs.Common.{Image, IsMemory, List, [], arith, bytes_of, drop, length, mod-lt, number_of, overwritten, slice_index, suc, take, zero, ℕ}
-use Rattle.zl_verify.proofs.Common.{◌*◌, ◌++◌, ◌+◌, ◌/◌, ◌<◌, ◌∷◌, ◌≡◌, ◌≤◌}
-use Rattle.std.proofs.lemmas.List.{length-take, length-drop, length-append, get_or-drop}
+use Rattle.zl_verify.proofs.Common.{Image, IsMemory, List, [], arith, bytes_of, drop, get_or-drop, length, mod-lt, number_of, overwritten, slice_index, suc}
+use Rattle.zl_verify.proofs.Common.{take, zero, ℕ, ◌*◌, ◌++◌, ◌+◌, ◌/◌, ◌<◌, ◌∷◌, ◌≡◌, ◌≤◌}
+use Rattle.std.proofs.lemmas.List.{length-take, length-drop, length-append}
 use Rattle.zl_code.proofs.ImageBytes.{length-bytes_of}
 
 abbrev pub AreBytes : List ℕ → Type 0

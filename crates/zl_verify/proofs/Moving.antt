@@ -3,13 +3,12 @@ use Rattle.zl_verify.proofs.Common.{ANY, AbsVal, Bool, Describes, Entry, Has, Ho
 use Rattle.zl_verify.proofs.Common.{Table, Word, [], ap, arith, cases_Bool, cases_eq, eqb-false, eqb-true, false, get_or-set_other, get_or-set_same}
 use Rattle.zl_verify.proofs.Common.{if◌then◌else◌, inl, inr, is_has, is_it, is_some, keepers, kind_in, length, length-map, map, may_move, moved, one_if, owners}
 use Rattle.zl_verify.proofs.Common.{owns, place_at, refl, rights_in, same_Some, slice_get, slice_index, slice_index_or, slice_set, slot_value, subst, suc, sym}
-use Rattle.zl_verify.proofs.Common.{true, untagged, value_at, with_value, zero, ℕ, ◌+◌, ◌<◌, ◌==◌, ◌∙◌, ◌∷◌, ◌≡◌, ◌≢◌, ◌≤◌, ◌⊎◌}
+use Rattle.zl_verify.proofs.Common.{true, untagged, value_at, with_long, with_value, zero, ℕ, ◌+◌, ◌<◌, ◌==◌, ◌∙◌, ◌∷◌, ◌≡◌, ◌≢◌, ◌≤◌, ◌⊎◌}
 use Rattle.std.proofs.lemmas.List.{length-set, map-set, set-get_or, get_or-map}
 use Rattle.zl_abs.specs.Values.{retagged}
 use Rattle.zl_verify.proofs.Owners.{by_register, owns_free, owners-map, owners-set, owners-with, value_at-map, value_at-with, value_at-here, set_same}
 use Rattle.zl_verify.proofs.Owners.{set_apart, keepers-set}
 use Rattle.zl_verify.proofs.Writing.{nothing_at_0, other_described}
-use Rattle.zl_abs.proofs.FineStates.{with_long}
 
 -- ---- take
 

@@ -1,10 +1,9 @@
 -- The table of a process that conforms has just its handles, each in one place, and so it is in every run.
 use Rattle.zl_verify.proofs.Common.{AllByRecursion, Bool, Conforms, Contains, HasEnded, HoldsJustItsHandles, Image, IsDistinct, IsTyping, IsUnderWay, List}
-use Rattle.zl_verify.proofs.Common.{Option, Process, State, World, [], ap, arith, concat, eq-eqb, false, filter, get, handle_values, has_ended, if◌then◌else◌}
-use Rattle.zl_verify.proofs.Common.{inl, inr, is_has, is_in_range, is_it, is_some, keepers, length, nat_lt, nat_tests, one_if, owners, owns, refl, same_Some}
-use Rattle.zl_verify.proofs.Common.{slice_index_or, subst, suc, sum_by-cons, sym, true, values_in_registers, values_in_slots, zero, ℕ, ◌&&◌, ◌++◌, ◌+◌, ◌<◌}
-use Rattle.zl_verify.proofs.Common.{◌==◌, ◌↔◌, ◌∙◌, ◌∷◌, ◌≡◌, ◌≤◌, ◌⊎◌}
-use Rattle.std.proofs.lemmas.List.Elements.{filter-append}
+use Rattle.zl_verify.proofs.Common.{Option, Process, State, World, [], ap, arith, concat, eq-eqb, false, filter, filter-append, get, handle_values, has_ended}
+use Rattle.zl_verify.proofs.Common.{if◌then◌else◌, inl, inr, is_has, is_in_range, is_it, is_some, keepers, length, nat_lt, nat_tests, one_if, owners, owns}
+use Rattle.zl_verify.proofs.Common.{refl, same_Some, slice_index_or, subst, suc, sum_by-cons, sym, true, values_in_registers, values_in_slots, zero, ℕ, ◌&&◌}
+use Rattle.zl_verify.proofs.Common.{◌++◌, ◌+◌, ◌<◌, ◌==◌, ◌↔◌, ◌∙◌, ◌∷◌, ◌≡◌, ◌≤◌, ◌⊎◌}
 use Rattle.zl_verify.specs.NoLeak.{NeverLeaks}
 use Rattle.zl_verify.proofs.CheckedRuns.{stays_so}
 use Rattle.zl_verify.proofs.Headline.{in_range, started_under_way}

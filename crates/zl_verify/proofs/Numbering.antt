@@ -1,18 +1,14 @@
 -- Pairs given backwards: what one more leaves, and what is said by those that are missing.
-use Rattle.zl_verify.proofs.Common.{Bool, IfSome, IsNested, List, Mark, None, Option, Some, Targets, ap, arith, at, false, get_or, inl, inr}
-use Rattle.zl_verify.proofs.Common.{is_some, length, length-replicate, length-set, min, places_by, refl, replicate, slice_get, slice_get-get_or}
-use Rattle.zl_verify.proofs.Common.{slice_set, subst, suc, sum_by-set, sym, true, zero, ℕ, ◌+◌, ◌-◌, ◌<◌, ◌∙◌, ◌∷◌, ◌≡◌, ◌≤◌, ◌⊎◌}
+use Rattle.zl_verify.proofs.Common.{Bool, IfSome, IsNested, List, Longest, Mark, None, Option, Some, Suits, Targets, ap, arith, at, false, get_or, imm_of, inl}
+use Rattle.zl_verify.proofs.Common.{inr, is_some, length, length-replicate, length-set, min, places_by, refl, replicate, slice_get, slice_get-get_or, slice_set}
+use Rattle.zl_verify.proofs.Common.{subst, suc, sum_by-set, sym, true, turns_left, zero, ℕ, ◌+◌, ◌-◌, ◌<◌, ◌∙◌, ◌∷◌, ◌≡◌, ◌≤◌, ◌⊎◌}
 use Rattle.zl_code.specs.declared.blocks.Mark.TheVariants as mark
 use Rattle.std.proofs.lemmas.List.{get_or-replicate}
 use Rattle.std.proofs.lemmas.Option.{IfSome_then}
-use Rattle.zl_code.specs.Blocks.{imm_of}
-use Rattle.zl_verify.specs.declared.steps.Longest.{Longest}
 use Rattle.zl_verify.specs.Lists.{within}
-use Rattle.zl_verify.specs.Nested.{Suits}
 use Rattle.zl_verify.specs.Longest.{AreLongest, FollowBehind, Given, IsKept, IsPairOf, IsStuckAt, IsStuckFrom, best_of, further, longest_by}
 use Rattle.zl_verify.specs.Longest.{longest_from, longest_of}
 use Rattle.zl_verify.specs.Longest.{missing, one_if, one_if_none, or_leaf, pair_at, plain, reach, through, through_by, turned, way_by, way_to}
-use Rattle.zl_verify.specs.Peaks.{turns_left}
 use Rattle.zl_verify.proofs.Places.{below_or_not, get_past, nowhere, set_by, there}
 use Rattle.zl_verify.proofs.Walking.{Block, Counted, Goes, IsEdge, Real, block_at, end_at, go_through, less, plain_edges, reach_turned, real_best, real_cut}
 use Rattle.zl_verify.proofs.Walking.{real_end, real_flat, real_further, real_leaf, rep_step, short_turned, some_turns}

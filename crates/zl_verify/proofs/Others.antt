@@ -2,11 +2,12 @@
 use Rattle.zl_verify.proofs.Common.{Acts, AtCall, Awaited, Bool, Calls, Condition, Conforms, Created, Ended, Entry, Image, IsFitStep, IsSound, IsStuck, IsTrue}
 use Rattle.zl_verify.proofs.Common.{IsTyping, KILLED, Library, Life, List, Moves, Next, None, Option, OthersLeave, Outcome, Process, Request, STUCK, Site, Some}
 use Rattle.zl_verify.proofs.Common.{State, Status, Step, TraceItem, World, [], after_ok, after_refusal, ap, arith, awaited_by, created_process, creates, effect}
-use Rattle.zl_verify.proofs.Common.{ended, entering_at, false, get, get-each, get-put, gives_ok, gives_refused, has_ended, insert_all, is_among, is_created}
-use Rattle.zl_verify.proofs.Common.{is_in_range, is_some, is_within, kept_by, left_behind, left_so, lives, new_handles, next_for, object_at, ok_outcome}
-use Rattle.zl_verify.proofs.Common.{on_object, on_process, option_map, process_create, process_ended, process_killed, process_start, receiver_of, refl, refusal}
-use Rattle.zl_verify.proofs.Common.{replied, runs, started_with, stored_by, taken, taken_handles, task_kill, true, waiting, was_killed, with_effect}
-use Rattle.zl_verify.proofs.Common.{with_killed, with_object, ℕ, ◌<◌, ◌==◌, ◌∙◌, ◌≡◌}
+use Rattle.zl_verify.proofs.Common.{ended, ended_other, entering_at, false, get, get-each, get-put, gives_ok, gives_refused, has_ended, insert_all, is_among}
+use Rattle.zl_verify.proofs.Common.{is_created, is_in_range, is_some, is_within, kept_by, kept_other, left_behind, left_other, left_so, lives, new_handles}
+use Rattle.zl_verify.proofs.Common.{next_for, object_at, ok_outcome, on_object, on_process, option_map, process_create, process_ended, process_killed}
+use Rattle.zl_verify.proofs.Common.{process_start, receiver_of, refl, refusal, replied, replied_other, runs, started_with, stored_by, stored_other, taken}
+use Rattle.zl_verify.proofs.Common.{taken_handles, task_kill, true, waiting, waiting_other, was_killed, with_effect, with_killed, with_object, ℕ, ◌<◌, ◌==◌}
+use Rattle.zl_verify.proofs.Common.{◌∙◌, ◌≡◌}
 use Rattle.zl_rights.specs.declared.status.Status.TheVariants as status
 use Rattle.zl_code.specs.declared.history.Outcome.TheVariants as outcome
 use Rattle.zl_verify.proofs.CallEnds.{call_ends}
@@ -14,7 +15,6 @@ use Rattle.zl_verify.proofs.OwnTable.{changed_elsewhere, inserted_elsewhere}
 use Rattle.zl_verify.proofs.OwnEffect.{starts_created, no_child, other_koid, AreAlike, alike_then, same_objects, alike_after, same_policy}
 use Rattle.zl_verify.proofs.Woken.{lives_then, sound_before, ends_step}
 use Rattle.zl_verify.proofs.Ended.{ended_still}
-use Rattle.zl_code.proofs.Frame.{ended_other, kept_other, left_other, replied_other, stored_other, waiting_other}
 
 -- ---- the others
 

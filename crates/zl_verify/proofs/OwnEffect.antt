@@ -2,23 +2,21 @@
 use Rattle.zl_verify.proofs.Common.{Body, Bool, ChannelEnd, Condition, Entry, EventBody, IsSound, JobBody, KILLED, Library, List, Message, None, Object, Option}
 use Rattle.zl_verify.proofs.Common.{Packet, PairEnd, PortBody, Process, ProcessBody, Ready, Request, Setting, Some, World, [], action_of, ap, arith}
 use Rattle.zl_verify.proofs.Common.{body_after_read, body_in, body_killed, body_of, body_packed, body_with_message, body_with_policy, cases_Bool, chan_create}
-use Rattle.zl_verify.proofs.Common.{chan_read_etc, chan_read_slots, chan_write, chan_write_slots, condition_number, created_process, creates, effect}
+use Rattle.zl_verify.proofs.Common.{chan_read_etc, chan_read_slots, chan_write, chan_write_slots, cond_both, condition_number, created_process, creates, effect}
 use Rattle.zl_verify.proofs.Common.{ends_caller, entering_at, eq-eqb, eqb-true, event_create, eventpair_create, false, get, get-each, get-put, get-update}
 use Rattle.zl_verify.proofs.Common.{has_child, has_child_job, has_child_process, has_ended, if◌then◌else◌, inl, inr, insert_all, is_created, is_dead}
-use Rattle.zl_verify.proofs.Common.{is_process, is_some, is_within, job_create, job_set_policy, job_within, keeping, kept_by, listed, lives, nat_tests}
-use Rattle.zl_verify.proofs.Common.{new_handles, none-some, object_at, object_killed, on_object, on_process, option_map, parent_in, parent_of, policy_changed}
-use Rattle.zl_verify.proofs.Common.{policy_in, port_cancel, port_create, port_poll, port_queue, port_wait, process_create, process_exit, process_killed}
-use Rattle.zl_verify.proofs.Common.{process_start, receiver_of, refl, refusal, same_Some, setting_of, signal, signal_peer, started_with, stored_by, storing}
-use Rattle.zl_verify.proofs.Common.{subst, sym, task_kill, then_some, true, unless_allowed, unwrap_or, with_effect, with_killed, with_object, without_keyed, ℕ}
-use Rattle.zl_verify.proofs.Common.{ℤ, ◌+◌, ◌<◌, ◌==◌, ◌||◌, ◌∙◌, ◌∷◌, ◌≡◌, ◌≤◌, ◌⊎◌}
+use Rattle.zl_verify.proofs.Common.{is_process, is_some, is_within, job_create, job_set_policy, job_within, keeping, kept_by, listed, listed_none, lives}
+use Rattle.zl_verify.proofs.Common.{nat_tests, new_handles, none-some, object_at, object_killed, on_object, on_process, option_map, parent_in, parent_of}
+use Rattle.zl_verify.proofs.Common.{policy_changed, policy_in, port_cancel, port_create, port_poll, port_queue, port_wait, process_create, process_exit}
+use Rattle.zl_verify.proofs.Common.{process_killed, process_start, receiver_of, refl, refusal, same_Some, setting_of, signal, signal_peer, started_with}
+use Rattle.zl_verify.proofs.Common.{stored_by, storing, subst, sym, task_kill, test_fails, test_passes, then_some, true, unless_allowed, unwrap_or, with_effect}
+use Rattle.zl_verify.proofs.Common.{with_killed, with_object, without_keyed, ℕ, ℤ, ◌+◌, ◌<◌, ◌==◌, ◌||◌, ◌∙◌, ◌∷◌, ◌≡◌, ◌≤◌, ◌⊎◌}
 use Rattle.zl_rights.proofs.MapTests.{any_at}
 use Rattle.zl_rights.specs.declared.status.Status.TheVariants as status
 use Rattle.zl_rights.specs.declared.policy.Action.TheVariants as action
 use Rattle.zl_verify.proofs.Giving.{getting_all}
 use Rattle.zl_verify.proofs.OwnTable.{changed_elsewhere, inserted_here, inserted_elsewhere, keeping_in, kept_here, own_handles, storing_in, stored_here}
-use Rattle.zl_code.proofs.Passing.{listed_none, test_fails, test_passes}
 use Rattle.zl_code.proofs.Frame.{unkilled}
-use Rattle.std.proofs.lemmas.Bool.{cond_both}
 
 -- ---- the caller
 

@@ -1,7 +1,7 @@
 -- The caller's process once handles left its table, and once they entered it.
 use Rattle.zl_verify.proofs.Common.{Bool, Entry, List, Map, None, Operand, Option, Process, Request, Some, Table, World, [], ap, arith, cases_Bool, choosing}
-use Rattle.zl_verify.proofs.Common.{cond, eq-eqb, eqb-true, false, filter, get, get-update, get_without, gone_without, has_key, if◌then◌else◌, inl, inr}
-use Rattle.zl_verify.proofs.Common.{insert_all, is_some, keeping, map, may_get_all, nat_tests, new_handles, on_process, overwritten, process_start}
+use Rattle.zl_verify.proofs.Common.{cond, cond_both, eq-eqb, eqb-true, false, filter, get, get-update, get_without, gone_without, has_key, if◌then◌else◌, inl}
+use Rattle.zl_verify.proofs.Common.{inr, insert_all, is_some, keeping, map, may_get_all, nat_tests, new_handles, on_process, overwritten, process_start}
 use Rattle.zl_verify.proofs.Common.{process_with, process_without, refl, remove_all, slice_index, slots_filled, storing, sym, true, without, ℕ, ◌++◌, ◌==◌, ◌∙◌}
 use Rattle.zl_verify.proofs.Common.{◌∷◌, ◌≡◌, ◌⊎◌}
 use Rattle.zl_verify.proofs.Consuming.{removed}
@@ -9,7 +9,6 @@ use Rattle.zl_verify.proofs.Emptying.{without_all}
 use Rattle.zl_verify.proofs.Examining.{unseen, unseen_more, seen_all, valued}
 use Rattle.zl_verify.proofs.Giving.{none_at, getting_all}
 use Rattle.zl_code.proofs.Frame.{enter_other}
-use Rattle.std.proofs.lemmas.Bool.{cond_both}
 
 pub changed_here : (w : World) (p : ℕ) (f : Process → Process) (q : Process) → get w.processes p ≡ Some q → get (on_process w p f).processes p ≡ Some (f q)
 unfolding on_process

@@ -1,10 +1,9 @@
 -- How many places own a handle, once one place is written.
-use Rattle.zl_verify.proofs.Common.{ANY, AbsVal, Bool, Has, Kind, KindOf, List, Option, Rights, RightsOf, State, Word, [], ap, arith, cases_Bool, eqb-false}
-use Rattle.zl_verify.proofs.Common.{false, get_or-set_other, get_or-set_same, if◌then◌else◌, inl, inr, is_has, is_it, keepers, length, map, nat_lt, nat_tests}
-use Rattle.zl_verify.proofs.Common.{one_if, owners, owns, place_at, refl, slice_index, slice_index_or, slice_set, suc, sum_by, sum_by-cons, sum_by-set, sym}
-use Rattle.zl_verify.proofs.Common.{true, untagged, value_at, with_value, zero, ℕ, ◌&&◌, ◌+◌, ◌<◌, ◌==◌, ◌∙◌, ◌∷◌, ◌≡◌, ◌≢◌, ◌≤◌, ◌⊎◌}
+use Rattle.zl_verify.proofs.Common.{ANY, AbsVal, Bool, Has, Kind, KindOf, List, Option, Rights, RightsOf, State, Word, [], and-false, ap, arith, cases_Bool}
+use Rattle.zl_verify.proofs.Common.{eqb-false, false, get_or-set_other, get_or-set_same, if◌then◌else◌, inl, inr, is_has, is_it, keepers, length, map, nat_lt}
+use Rattle.zl_verify.proofs.Common.{nat_tests, one_if, owners, owns, place_at, refl, slice_index, slice_index_or, slice_set, suc, sum_by, sum_by-cons}
+use Rattle.zl_verify.proofs.Common.{sum_by-set, sym, true, untagged, value_at, with_value, zero, ℕ, ◌&&◌, ◌+◌, ◌<◌, ◌==◌, ◌∙◌, ◌∷◌, ◌≡◌, ◌≢◌, ◌≤◌, ◌⊎◌}
 pub use Rattle.zl_abs.proofs.FineStates.{mapped_at as value_at-map}
-use Rattle.std.proofs.Math.Bool.{and-false}
 use Rattle.std.proofs.lemmas.Bool.{and_right}
 
 -- ---- one place

@@ -1,9 +1,8 @@
 -- What is true wherever an instruction goes on to the next one alone is true of each rule that is no jump's.
 use Rattle.zl_verify.proofs.Common.{ANY, AbsVal, Bool, Cause, Err, IfOk, Image, List, LocalInstr, None, Ok, Option, Result, SlotArray, Some, State, Word}
-use Rattle.zl_verify.proofs.Common.{and_then, eqb, false, if◌then◌else◌, in_memory, is_has, loads, local_rule, ltb, may_move, moved, not, passes}
+use Rattle.zl_verify.proofs.Common.{and_then, eqb, false, if◌then◌else◌, in_memory, is_has, loads, local_rule, ltb, may_jump, may_move, moved, not, passes}
 use Rattle.zl_verify.proofs.Common.{slice_get, slot_fault, stores, swaps_by, swaps_in, true, value_at, with_value, word_at, writes, ℕ, ◌≡◌}
 use Rattle.zl_abs.specs.Outcome.{Outcome}
-use Rattle.zl_verify.specs.Ahead.{may_jump}
 use Rattle.zl_abs.specs.LocalRules.{takes}
 use Rattle.zl_code.specs.declared.instr.LocalInstr.TheVariants as local
 use Rattle.zl_abs.specs.declared.cause.Cause.TheVariants as cause

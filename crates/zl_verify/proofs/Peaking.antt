@@ -1,22 +1,19 @@
 -- The largest number of each place, whatever its counters are: it is one of them, and none is larger.
-use Rattle.zl_verify.proofs.Common.{AreCounters, Bool, IfSome, IsNested, List, Mark, None, Option, Some, Targets, [], ap, arith, at, blocks_at, cond, false}
-use Rattle.zl_verify.proofs.Common.{get_or, get_or-set_other, get_or-set_same, inl, inr, length, length-map, length-replicate, length-set, map, max}
-use Rattle.zl_verify.proofs.Common.{min, mul-le-mul_right}
-use Rattle.zl_verify.proofs.Common.{nat_le, nat_lt, nat_tests, not, position, position_or_len, refl, replicate, slice_get, slice_get-get_or, slice_set, subst}
-use Rattle.zl_verify.proofs.Common.{suc, sym, true, zero, ℕ, ◌+◌, ◌-◌, ◌<◌, ◌∙◌, ◌∷◌, ◌≡◌, ◌≢◌, ◌≤◌}
+use Rattle.zl_verify.proofs.Common.{AreCounters, AreHomes, ArePeaks, Bool, IfSome, IsBoundOf, IsNested, IsUnbounded, List, Longest, Mark, None, Option, Some}
+use Rattle.zl_verify.proofs.Common.{Targets, [], ap, arith, at, blocks_at, cond, end_of, false, get_or, get_or-set_other, get_or-set_same, head_of, imm_of, inl}
+use Rattle.zl_verify.proofs.Common.{inr, length, length-map, length-replicate, length-set, lengths, map, max, min, mul-le-mul_right, nat_le, nat_lt, nat_tests}
+use Rattle.zl_verify.proofs.Common.{not, or_most, position, position_or_len, refl, replicate, slice_get, slice_get-get_or, slice_set, subst, suc, sym, true}
+use Rattle.zl_verify.proofs.Common.{turns_left, zero, ℕ, ◌+◌, ◌-◌, ◌<◌, ◌∙◌, ◌∷◌, ◌≡◌, ◌≢◌, ◌≤◌}
 use Rattle.zl_code.specs.declared.blocks.Mark.TheVariants as mark
 use Rattle.zl_verify.specs.declared.peaks.Unbounded.TheVariants as unbounded
 use Rattle.std.proofs.lemmas.List.{get_or-map, get_or-replicate, get_or_past}
 use Rattle.std.proofs.lemmas.List.Recursion.{is_position_or_len}
 use Rattle.std.proofs.lemmas.List.Quantifiers.{position-Some}
 use Rattle.std.proofs.lemmas.List.Sums.{fails_before_first}
-use Rattle.zl_code.specs.Blocks.{end_of, head_of, imm_of}
-use Rattle.zl_verify.specs.declared.steps.Longest.{Longest}
 use Rattle.zl_verify.specs.Lists.{within}
 use Rattle.zl_verify.specs.Longest.{AreLongest, leaf, or_leaf, pair_at, reach, reach_by}
-use Rattle.zl_verify.specs.Peaks.{AreHomes, ArePeaks, IsBoundOf, IsPeak, IsUnbounded, Reaches, home_behind, number, lengths, or_most, pair_in}
+use Rattle.zl_verify.specs.Peaks.{IsPeak, Reaches, home_behind, number, pair_in}
 use Rattle.zl_verify.specs.Peaks.{peak_by, peak_home}
-use Rattle.zl_verify.specs.Peaks.{turns_left}
 use Rattle.zl_verify.proofs.Places.{below_or_not, equal_or_not, get_past, set_by}
 use Rattle.zl_verify.proofs.Walking.{AllOpen, Block, Real, are_full, block_at, blocks_next, bounded, end_at, full, less, less_one, no_turns, opens, real_flat}
 use Rattle.zl_verify.proofs.Walking.{some_turns, turns}

@@ -1,13 +1,9 @@
 -- A worked example: with a block that is gone round three times eight instructions follow one another before the exit, so that there is a step bound at
 -- a budget of eight, and at seven the first instruction is over.
-use Rattle.zl_code.specs.Image.{blank_image}
-use Rattle.zl_verify.proofs.Common.{ANY, AllBelow, AreCountersAt, Image, IsOver, IsState, IsTrue, IsTyping, List, Option}
-use Rattle.zl_verify.proofs.Common.{RuleHolds, Some, State}
-use Rattle.zl_verify.proofs.Common.{Word, [], arith, at, blocks_at, called, inl, leads_on, refl, replicate, rule, same_Some, subst, suc, zero, ℕ, ◌*◌}
-use Rattle.zl_verify.proofs.Common.{◌-◌, ◌∷◌}
-use Rattle.zl_verify.proofs.Common.{◌≡◌, ◌≤◌, all_below, are_distinct, call_rule, examined_all, local_parts, local_rule, rule_with, start_state}
-use Rattle.zl_verify.proofs.Common.{uses_of}
-use Rattle.zl_verify.proofs.Common.{value_at, with_all, with_value}
+use Rattle.zl_verify.proofs.Common.{ANY, AllBelow, AreCountersAt, Image, IsOver, IsState, IsTrue, IsTyping, List, Option, RuleHolds, Some, State, Word, []}
+use Rattle.zl_verify.proofs.Common.{all_below, are_distinct, arith, at, blank_image, blocks_at, call_rule, called, examined_all, inl, leads_on, local_parts}
+use Rattle.zl_verify.proofs.Common.{local_rule, refl, replicate, rule, rule_with, same_Some, start_state, subst, suc, uses_of, value_at, with_all, with_value}
+use Rattle.zl_verify.proofs.Common.{zero, ℕ, ◌*◌, ◌-◌, ◌∷◌, ◌≡◌, ◌≤◌}
 use Rattle.zl_code.specs.declared.image.Version.TheVariants as version
 use Rattle.zl_code.specs.declared.instr.Instr.TheVariants as instr
 use Rattle.zl_code.specs.declared.instr.LocalInstr.TheVariants as local

@@ -1,11 +1,9 @@
 -- A worked example: a process of a program with one handle and one slot array conforms where it starts.
-use Rattle.zl_code.specs.Image.{blank_image}
 use Rattle.zl_verify.proofs.Common.{ANY, Bool, Conforms, Describes, Entry, Has, Holds, Image, IsHandle, List, None, Option, Process, READ, Ready, SlotArray}
-use Rattle.zl_verify.proofs.Common.{Some, State, Table, Word, World, [], arith, called, creates, false, get, if◌then◌else◌, inl, inr, is_it, is_some, keepers}
-use Rattle.zl_verify.proofs.Common.{one_if, owners, owns, place_at, refl, replicate, rights_of, slice_get, slice_index, start_state, subst, suc, sym, true}
-use Rattle.zl_verify.proofs.Common.{value_at, with_all, with_value, zero, ℕ, ◌&&◌, ◌+◌, ◌<◌, ◌==◌, ◌∷◌, ◌≡◌, ◌≤◌}
+use Rattle.zl_verify.proofs.Common.{Some, State, Table, Word, World, [], arith, blank_image, blocks_at, called, creates, false, get, if◌then◌else◌, inl, inr}
+use Rattle.zl_verify.proofs.Common.{is_it, is_some, keepers, one_if, owners, owns, place_at, refl, replicate, rights_of, slice_get, slice_index, start_state}
+use Rattle.zl_verify.proofs.Common.{subst, suc, sym, true, value_at, with_all, with_value, zero, ℕ, ◌&&◌, ◌+◌, ◌<◌, ◌==◌, ◌∷◌, ◌≡◌, ◌≤◌}
 use Rattle.zl_rights.specs.declared.kind.Kind.TheVariants as kind
-use Rattle.zl_code.specs.Blocks.{blocks_at}
 use Rattle.zl_code.specs.declared.instr.Instr.TheVariants as instr
 use Rattle.zl_code.specs.declared.instr.LocalInstr.TheVariants as local
 use Rattle.zl_code.specs.declared.history.CallName.TheVariants as name

@@ -1,20 +1,18 @@
 -- A worked example: a process with one handle in a register and one in a slot array conforms, and its table has just these two; and tables, states and places
 -- of which that isn't so.
-use Rattle.zl_code.specs.Image.{blank_image}
 use Rattle.zl_verify.proofs.Common.{ANY, AbsVal, Bool, Conforms, Contains, Cpu, Describes, Entry, Has, Holds, HoldsJustItsHandles, Image, IsDistinct, IsHandle}
-use Rattle.zl_verify.proofs.Common.{IsTrue, List, Map, None, Option, Process, READ, Ready, SlotArray, Some, Start, State, Word, World, [], arith, called}
-use Rattle.zl_verify.proofs.Common.{creates, eqb-true, false, get, handle_values, has_key, if◌then◌else◌, inl, inr, is_it, is_some, keepers, list_any}
-use Rattle.zl_verify.proofs.Common.{nat_tests, one_if, owners, owns, place_at, refl, replicate, rights_of, same_Some, slice_get, slice_index, subst, suc, sym}
-use Rattle.zl_verify.proofs.Common.{true, value_at, values_in_registers, values_in_slots, zero, ℕ, ◌&&◌, ◌+◌, ◌<◌, ◌==◌, ◌↔◌, ◌∷◌, ◌≡◌, ◌≤◌}
+use Rattle.zl_verify.proofs.Common.{IsTrue, List, Map, None, Option, Process, READ, Ready, SlotArray, Some, Start, State, Word, World, [], arith, blank_image}
+use Rattle.zl_verify.proofs.Common.{blocks_at, called, creates, eqb-true, false, get, handle_values, has_key, if◌then◌else◌, inl, inr, is_it, is_some, keepers}
+use Rattle.zl_verify.proofs.Common.{list_any, nat_tests, one_if, or_right, owners, owns, place_at, refl, replicate, rights_of, same_Some, slice_get}
+use Rattle.zl_verify.proofs.Common.{slice_index, subst, suc, sym, true, value_at, values_in_registers, values_in_slots, zero, ℕ, ◌&&◌, ◌+◌, ◌<◌, ◌==◌, ◌↔◌, ◌∷◌}
+use Rattle.zl_verify.proofs.Common.{◌≡◌, ◌≤◌}
 use Rattle.zl_rights.specs.declared.kind.Kind.TheVariants as kind
-use Rattle.zl_code.specs.Blocks.{blocks_at}
 use Rattle.zl_code.specs.declared.instr.Instr.TheVariants as instr
 use Rattle.zl_code.specs.declared.instr.LocalInstr.TheVariants as local
 use Rattle.zl_code.specs.declared.history.CallName.TheVariants as name
 use Rattle.zl_verify.proofs.RowsConforms.{zeros_small, zeros_described}
 use Rattle.zl_verify.proofs.Owners.{not_0}
 use Rattle.zl_verify.proofs.Starting.{owners_none}
-use Rattle.zl_code.proofs.Common.{or_right}
 
 -- ---- the example
 

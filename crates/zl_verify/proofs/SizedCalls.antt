@@ -8,14 +8,14 @@ use Rattle.zl_verify.proofs.Common.{chan_write_slots, changed, choosing, cpu_ans
 use Rattle.zl_verify.proofs.Common.{eqb-true, event_create, eventpair_create, false, filter, first_bytes, first_handles, first_values, get, get_without}
 use Rattle.zl_verify.proofs.Common.{gets_all, gives_ok, gives_refused, gone_without, handle_info, has_key, if◌then◌else◌, info_of, inl, inr, insert_all}
 use Rattle.zl_verify.proofs.Common.{is_by_handle, is_keyed, is_some, is_too_large, is_value, is_within, job_create, job_set_policy, job_within, kept_by, length}
-use Rattle.zl_verify.proofs.Common.{listed, lives, may_change, may_choose, may_get_after, may_get_all, nat_lt, nat_tests, new_handles, not, object_at}
-use Rattle.zl_verify.proofs.Common.{object_killed, ok_outcome, on_process, option_map, option_to_list, packets_at, packets_in, peer_at, port_cancel}
+use Rattle.zl_verify.proofs.Common.{listed, listed_none, lives, may_change, may_choose, may_get_after, may_get_all, nat_lt, nat_tests, new_handles, not}
+use Rattle.zl_verify.proofs.Common.{object_at, object_killed, ok_outcome, on_process, option_map, option_to_list, packets_at, packets_in, peer_at, port_cancel}
 use Rattle.zl_verify.proofs.Common.{port_create, port_poll, port_queue, port_wait, process_create, process_killed, process_start, process_with, process_without}
 use Rattle.zl_verify.proofs.Common.{queue_at, queue_of, receiver_of, refl, refusal, reg, remove_all, replace, replicate, replied, runs, same_Some, settable_of}
 use Rattle.zl_verify.proofs.Common.{setting_of, signal, signal_peer, site_of, slice_get, slice_index, source_at, started_with, status_magnitude, stored_by}
-use Rattle.zl_verify.proofs.Common.{subst, suc, sym, take, taken, taken_handles, task_kill, told_of, true, wait_async, wait_of, wait_one, wait_poll}
-use Rattle.zl_verify.proofs.Common.{with_effect, with_killed, with_object, within, without, written, zero, zeros_for, ℕ, ⊤, ◌++◌, ◌+◌, ◌==◌, ◌||◌, ◌∙◌, ◌∷◌}
-use Rattle.zl_verify.proofs.Common.{◌≡◌, ◌≤◌, ◌⊎◌}
+use Rattle.zl_verify.proofs.Common.{subst, suc, sym, take, taken, taken_handles, task_kill, test_fails, test_passes, told_of, true, wait_async, wait_of}
+use Rattle.zl_verify.proofs.Common.{wait_one, wait_poll, with_effect, with_killed, with_object, within, without, written, zero, zeros_for, ℕ, ⊤, ◌++◌, ◌+◌}
+use Rattle.zl_verify.proofs.Common.{◌==◌, ◌||◌, ◌∙◌, ◌∷◌, ◌≡◌, ◌≤◌, ◌⊎◌}
 use Rattle.zl_rights.specs.Packets.{user_packet, is_from}
 use Rattle.zl_rights.specs.declared.status.Status.TheVariants as status
 use Rattle.zl_code.specs.declared.history.Outcome.TheVariants as outcome
@@ -26,7 +26,6 @@ use Rattle.zl_verify.proofs.Memories.{AreBytes, all_taken, all_dropped}
 use Rattle.zl_verify.proofs.Calm.{both_few, within_few, first_sizes, first_are_bytes, entry_rights, first_rights, packets_at_sized}
 use Rattle.zl_verify.proofs.Giving.{status_few, kind_few, HasFewRights}
 use Rattle.zl_verify.proofs.Sites.{call, AtSite, of_site}
-use Rattle.zl_code.proofs.Passing.{listed_none, test_fails, test_passes}
 use Rattle.zl_verify.proofs.SizedCpus.{AreSmall, AreSmallIn, registers_written, answered_sized, blank_sized, slots_narrow, started_sized}
 use Rattle.zl_verify.proofs.SizedWorlds.{pair_sized, IsSizedProcess, IsSizedAt, all_filtered, all_behind, each_update, each_each, queues_sized, active_sized}
 use Rattle.zl_verify.proofs.SizedWorlds.{process_sized, one_sized, new_process_sized, removed_sized, inserted_sized, kept_sized, stored_sized, ended_sized}

@@ -1,16 +1,13 @@
 -- Registers, memories and slot arrays stay sized, whatever a local instruction does.
 use Rattle.zl_verify.proofs.Common.{ANY, AllByRecursion, Bool, Cpu, IfSome, IsSizedCpu, List, LocalInstr, None, Option, Program, SlotArray, Some, [], and_le_l}
-use Rattle.zl_verify.proofs.Common.{answered, arith, bit_and, blank_cpu, bytes_of, cpu_given, drop, false, get_or_from_slice_get, if◌then◌else◌, is_in_memory}
-use Rattle.zl_verify.proofs.Common.{is_local_in_range, length, local_effect, local_parts, map, nat_lt, number_of, overwritten, refl, reg, replicate, set_from}
-use Rattle.zl_verify.proofs.Common.{sets, shifted, slice_get, slice_index, slice_index_or, slice_set, slots_filled, subst, suc, swaps, take, true, with_handles}
-use Rattle.zl_verify.proofs.Common.{written, zero, ℕ, ◌++◌, ◌+◌, ◌-◌, ◌<◌, ◌^◌, ◌∷◌, ◌≡◌, ◌≤◌}
-use Rattle.zl_code.specs.Effects.{filled_in}
+use Rattle.zl_verify.proofs.Common.{answered, arith, bit_and, blank_cpu, bytes_of, cond_both, cpu_given, drop, false, filled_in, get_or-drop}
+use Rattle.zl_verify.proofs.Common.{get_or_from_slice_get, if◌then◌else◌, is_in_memory, is_local_in_range, length, local_effect, local_parts, map, nat_lt}
+use Rattle.zl_verify.proofs.Common.{number_of, overwritten, refl, reg, replicate, set_from, sets, shifted, slice_get, slice_index, slice_index_or, slice_set}
+use Rattle.zl_verify.proofs.Common.{slots_filled, subst, suc, swaps, take, true, with_handles, written, zero, ℕ, ◌++◌, ◌+◌, ◌-◌, ◌<◌, ◌^◌, ◌∷◌, ◌≡◌, ◌≤◌}
 use Rattle.zl_code.specs.Local.{loads, stores, swaps_in, turns_by}
 use Rattle.zl_code.specs.declared.instr.LocalInstr.TheVariants as local
 use Rattle.zl_verify.proofs.Agreeing.{wrapped_few, or_few, xor_few, up_few, down_less, imm_in}
 use Rattle.zl_verify.proofs.Memories.{byte_less, word_less, bytes_over, all_of}
-use Rattle.std.proofs.lemmas.Bool.{cond_both}
-use Rattle.std.proofs.lemmas.List.{get_or-drop}
 
 -- ---- lists by their places
 

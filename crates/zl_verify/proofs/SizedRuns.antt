@@ -2,16 +2,14 @@
 use Rattle.zl_verify.proofs.Common.{ANY, Acts, AllByRecursion, AtCall, Bool, Boots, CallInstr, ChannelEnd, Cpu, Entry, EventBody, IfSome, Image, Instr, IsSized}
 use Rattle.zl_verify.proofs.Common.{IsSizedBoot, IsSizedCpu, IsSizedObject, IsSound, IsStuck, IsTrue, JobBody, Library, List, Moves, Next, None, Object, Option}
 use Rattle.zl_verify.proofs.Common.{PairEnd, PortBody, Process, ProcessBody, Runs, STUCK, Site, Some, Statement, Step, Throughout, TraceItem, World, []}
-use Rattle.zl_verify.proofs.Common.{body_of, boot_effect, boot_sound, calls_at, created_process, false, flat_map, get, handles_given, if◌then◌else◌, instr_at}
-use Rattle.zl_verify.proofs.Common.{is_in_range, is_instr_in_range, job_within, local_effect, may_boot, moves, next_at, next_for, next_in, next_of, none-some}
-use Rattle.zl_verify.proofs.Common.{origin, pid_of, process_with, process_with_all, ranges, refl, same_Some, setting, single, site_of, slice_get, step_sound}
-use Rattle.zl_verify.proofs.Common.{subst, suc, true, with_object, word_of, zero, ℕ, ⊤, ◌+◌, ◌==◌, ◌∷◌, ◌≡◌, ◌≤◌}
-use Rattle.zl_verify.proofs.Common.{both, local_parts, is_local_in_range}
-use Rattle.zl_code.specs.Instructions.{is_known}
+use Rattle.zl_verify.proofs.Common.{body_of, boot_effect, boot_sound, both, calls_at, created_process, false, flat_map, get, handles_given, if◌then◌else◌}
+use Rattle.zl_verify.proofs.Common.{in_range_at, instr_at, is_in_range, is_instr_in_range, is_known, is_local_in_range, job_within, local_effect, local_parts}
+use Rattle.zl_verify.proofs.Common.{may_boot, moves, next_at, next_for, next_in, next_of, none-some, origin, pid_of, process_with, process_with_all, ranges}
+use Rattle.zl_verify.proofs.Common.{refl, same_Some, setting, single, site_of, slice_get, step_sound, subst, suc, true, with_object, word_of, zero, ℕ, ⊤, ◌+◌}
+use Rattle.zl_verify.proofs.Common.{◌==◌, ◌∷◌, ◌≡◌, ◌≤◌}
 use Rattle.zl_code.specs.Steps.{IsLegalHistory}
 use Rattle.zl_code.specs.declared.boot.Statement.TheVariants as statement
 use Rattle.zl_code.specs.declared.instr.Instr.TheVariants as instr
-use Rattle.zl_abs.proofs.FineRules.{in_range_at}
 use Rattle.zl_verify.proofs.SizedCpus.{blank_sized, started_sized, local_sized}
 use Rattle.zl_verify.proofs.SizedWorlds.{pair_sized, object_sized, process_sized, new_process_sized, ended_sized, new_object_sized, settled_sized, wakes_sized}
 use Rattle.zl_verify.proofs.SizedCalls.{policy_set_sized, IsSizedRequest, request_sized, chosen_small, empty_sized, call_sized}

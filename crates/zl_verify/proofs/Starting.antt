@@ -1,15 +1,14 @@
 -- A process that starts properly is as a typing of its image says at instruction 0.
 use Rattle.zl_verify.proofs.Common.{ANY, AbsVal, AreCountersAt, Conforms, Cpu, Entry, Holds, Image, IsAbove, IsAs, IsMemory, IsProperStart, IsState, IsTyping}
 use Rattle.zl_verify.proofs.Common.{Kind, Library, List, None, Option, Process, SlotArray, Some, Start, State, Word, World, [], ap, are_declared, are_distinct}
-use Rattle.zl_verify.proofs.Common.{arith, bits, blank_cpu, both, cpu_given, created_process, false, get, has_one, inl, inr, is_in_range, is_it, is_result}
-use Rattle.zl_verify.proofs.Common.{keepers, kind_below, length, map, may_get, may_get_all, nat_tests, none-some, one_if, option_to_list, owners, place_at}
-use Rattle.zl_verify.proofs.Common.{process_with, process_with_all, ranges, refl, register_count, replicate, same_kind, set_from, slice_index, slice_set}
-use Rattle.zl_verify.proofs.Common.{start_results, start_state, start_value, starts_from, subst, suc, sum_by, sum_by-cons, sym, takes, true, value_at, with_all}
-use Rattle.zl_verify.proofs.Common.{with_handles, with_value, within, written, zero, ℕ, ◌+◌, ◌<◌, ◌==◌, ◌∙◌, ◌∷◌, ◌≡◌, ◌≢◌, ◌≤◌}
+use Rattle.zl_verify.proofs.Common.{arith, bits, blank_cpu, blocks_at, both, cpu_given, created_process, false, get, has_one, inl, inr, is_in_range, is_it}
+use Rattle.zl_verify.proofs.Common.{is_result, keepers, kind_below, length, map, may_get, may_get_all, nat_tests, none-some, one_if, option_to_list, owners}
+use Rattle.zl_verify.proofs.Common.{place_at, process_with, process_with_all, ranges, refl, register_count, replicate, same_kind, set_from, slice_index}
+use Rattle.zl_verify.proofs.Common.{slice_set, start_results, start_state, start_value, starts_from, subst, suc, sum_by, sum_by-cons, sym, takes, true}
+use Rattle.zl_verify.proofs.Common.{value_at, with_all, with_handles, with_value, within, written, zero, ℕ, ◌+◌, ◌<◌, ◌==◌, ◌∙◌, ◌∷◌, ◌≡◌, ◌≢◌, ◌≤◌}
 use Rattle.std.proofs.lemmas.List.{length-replicate}
 use Rattle.std.proofs.Math.Bool.{or-false}
 use Rattle.zl_code.specs.Jobs.{is_declared}
-use Rattle.zl_code.specs.Blocks.{blocks_at}
 use Rattle.zl_verify.proofs.Owners.{not_0, owns_0}
 use Rattle.zl_verify.proofs.Weakening.{weaken}
 use Rattle.zl_verify.proofs.Fitting.{Fits, AreInside, results}

@@ -1,19 +1,12 @@
 -- The edges that are followed suit the blocks of an image in range, and the counters behind them are right.
-use Rattle.zl_verify.proofs.Common.{AreCounters, AreCountersAt, AreTargets, Bool, Cause, Edge, Err, Image, Instr, IsNested, IsTrue, List, Mark, None}
-use Rattle.zl_verify.proofs.Common.{Ok, OneOf, Option}
-use Rattle.zl_verify.proofs.Common.{Result, Some, Spot, State, [], and_then, at, blocks_at, bounds_of, call_at, edge_to, ends_by, false}
-use Rattle.zl_verify.proofs.Common.{if◌then◌else◌, inl, inr, instr_at}
-use Rattle.zl_verify.proofs.Common.{is_in_range, is_pause, leads, leads_by, length, local_in, local_rule, marks_of, nat_le, nat_lt, onward}
-use Rattle.zl_verify.proofs.Common.{option_to_list, refl}
-use Rattle.zl_verify.proofs.Common.{rule, rule_by, rule_with, slice_get, spots, spots_to, subst, sym, targets_of, Targets, then_some, true, ℕ, ◌++◌}
-use Rattle.zl_verify.proofs.Common.{◌+◌, ◌∙◌, ◌∷◌, ◌≡◌, ◌≢◌, ◌⊎◌}
-use Rattle.zl_verify.proofs.Common.{arith, AllByRecursion}
-use Rattle.std.proofs.lemmas.Option.{slice_get-map}
-use Rattle.std.specs.Option.{option_map}
+use Rattle.zl_verify.proofs.Common.{AllByRecursion, AreCounters, AreCountersAt, AreTargets, Bool, Cause, Edge, Err, Image, Instr, IsNested, IsTrue, List, Mark}
+use Rattle.zl_verify.proofs.Common.{None, Ok, OneOf, Option, Result, Some, Spot, State, Targets, [], and_then, arith, at, blocks_at, bounds_of, call_at}
+use Rattle.zl_verify.proofs.Common.{edge_to, end_of, ends_by, false, if◌then◌else◌, imm_of, inl, inr, instr_at, is_in_range, is_pause, leads, leads_by, length}
+use Rattle.zl_verify.proofs.Common.{local_in, local_rule, mark_of, marks_of, nat_le, nat_lt, onward, option_map, option_to_list, refl, rule, rule_by, rule_with}
+use Rattle.zl_verify.proofs.Common.{slice_get, slice_get-map, spots, spots_to, subst, sym, targets_of, then_some, true, ℕ, ◌++◌, ◌+◌, ◌∙◌, ◌∷◌, ◌≡◌, ◌≢◌, ◌⊎◌}
 use Rattle.zl_code.specs.declared.blocks.Mark.TheVariants as mark
 use Rattle.zl_code.specs.declared.instr.Instr.TheVariants as instr
 use Rattle.zl_code.specs.declared.instr.LocalInstr.TheVariants as local
-use Rattle.zl_code.specs.Blocks.{end_of, imm_of, mark_of}
 use Rattle.zl_code.proofs.Nested.{begins, blocks}
 use Rattle.zl_abs.specs.declared.cause.Cause.TheVariants as cause
 use Rattle.zl_abs.specs.LocalRules.{goes_round_again}

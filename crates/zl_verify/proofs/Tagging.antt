@@ -1,8 +1,7 @@
 -- A written register keeps that tags name registers that are 0 or have a handle.
 use Rattle.zl_verify.proofs.Common.{ANY, AbsVal, Has, IsState, IsTrue, KindOf, RightsOf, State, Word, can_be_named, cases_Bool, cases_eq, eqb-true, false, inl}
-use Rattle.zl_verify.proofs.Common.{inr, is_named_well, length, refl, true, untagged, value_at, with_value, ℕ, ◌<◌, ◌==◌, ◌∙◌, ◌≡◌, ◌≢◌, ◌⊎◌}
+use Rattle.zl_verify.proofs.Common.{inr, is_named_well, length, refl, true, untagged, value_at, with_long, with_value, ℕ, ◌<◌, ◌==◌, ◌∙◌, ◌≡◌, ◌≢◌, ◌⊎◌}
 use Rattle.zl_verify.proofs.Owners.{by_register, value_at-with, value_at-here}
-use Rattle.zl_abs.proofs.FineStates.{with_long}
 
 pub test_apart : (a b : ℕ) → a ≢ b → (a == b) ≡ false
 test_apart a b h = by (cases_Bool (a == b))

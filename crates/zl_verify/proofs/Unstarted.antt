@@ -1,12 +1,13 @@
 -- A process that was made and isn't started yet is as it was made, and its job allows what its program needs; what a step does keeps this.
 use Rattle.zl_verify.proofs.Common.{Acts, AtCall, Awaited, Blocked, Bool, Calls, Created, Ended, Entry, IsStuck, KILLED, Library, Life, List, Moves, Next, None}
 use Rattle.zl_verify.proofs.Common.{Option, Outcome, Process, ProcessBody, Ready, Request, Site, Some, TraceItem, World, [], after_ok, after_refusal, ap}
-use Rattle.zl_verify.proofs.Common.{awaited_by, cases_Bool, cpu_answered, created_process, effect, ended, ends_caller, entering_at, eq-eqb, eqb-true, false}
-use Rattle.zl_verify.proofs.Common.{get, get-each, get-put, get-update, gives_ok, gives_refused, has_ended, if◌then◌else◌, inl, inr, insert_all, is_created}
-use Rattle.zl_verify.proofs.Common.{is_within, kept_by, left_behind, new_handles, object_at, ok_outcome, on_object, on_process, option_map, process_create}
-use Rattle.zl_verify.proofs.Common.{process_ended, process_killed, process_start, process_with, put, receiver_of, refl, refusal, replied, same_Some}
-use Rattle.zl_verify.proofs.Common.{started_with, stored_by, subst, sym, taken, taken_handles, task_kill, true, waiting, with_effect, with_killed, with_object}
-use Rattle.zl_verify.proofs.Common.{ℕ, ℤ, ◌<◌, ◌==◌, ◌∙◌, ◌∷◌, ◌≡◌, ◌⊎◌}
+use Rattle.zl_verify.proofs.Common.{awaited_by, cases_Bool, cpu_answered, created_process, effect, ended, ended_other, ends_caller, entering_at, eq-eqb}
+use Rattle.zl_verify.proofs.Common.{eqb-true, false, get, get-each, get-put, get-update, gives_ok, gives_refused, has_ended, if◌then◌else◌, inl, inr}
+use Rattle.zl_verify.proofs.Common.{insert_all, is_created, is_within, kept_by, kept_other, left_behind, left_other, new_handles, object_at, ok_outcome}
+use Rattle.zl_verify.proofs.Common.{on_object, on_process, option_map, process_create, process_ended, process_killed, process_start, process_with, put}
+use Rattle.zl_verify.proofs.Common.{receiver_of, refl, refusal, replied, replied_other, same_Some, started_with, stored_by, stored_other, subst, sym, taken}
+use Rattle.zl_verify.proofs.Common.{taken_handles, task_kill, true, waiting, waiting_other, with_effect, with_killed, with_object, ℕ, ℤ, ◌<◌, ◌==◌, ◌∙◌, ◌∷◌}
+use Rattle.zl_verify.proofs.Common.{◌≡◌, ◌⊎◌}
 use Rattle.zl_rights.specs.declared.status.Status.TheVariants as status
 use Rattle.zl_code.specs.declared.history.Outcome.TheVariants as outcome
 use Rattle.zl_verify.proofs.CallEnds.{call_ends}
@@ -15,7 +16,6 @@ use Rattle.zl_verify.proofs.OwnTable.{changed_here, changed_elsewhere, inserted_
 use Rattle.zl_verify.proofs.Storing.{keeping_same, storing_same}
 use Rattle.zl_verify.proofs.OwnEffect.{IsDone, caller_after, caller_ending, inserted_objects, kept_objects, stored_objects}
 use Rattle.zl_verify.proofs.Others.{not_created}
-use Rattle.zl_code.proofs.Frame.{kept_other, left_other, stored_other, ended_other, waiting_other, replied_other}
 
 -- ---- where such a process comes from
 

@@ -2,14 +2,13 @@
 use Rattle.zl_verify.proofs.Common.{Action, AreUnstarted, Bool, Condition, Created, Entry, IsFitStep, IsSound, IsUnstarted, Library, Life, List, None, Object}
 use Rattle.zl_verify.proofs.Common.{Option, Process, ProcessBody, Program, Ready, Settles, Some, Step, TraceItem, World, [], action_of, answered, ap, arith}
 use Rattle.zl_verify.proofs.Common.{body_in, body_of, cases_Bool, condition_number, created_process, creates, eq-eqb, eqb-true, false, fired, get, get-each}
-use Rattle.zl_verify.proofs.Common.{get-put, if◌then◌else◌, inl, inr, is_allowing, is_among, is_created, is_some, koid_in, lacks_need, list_any, listed, lives}
-use Rattle.zl_verify.proofs.Common.{made_ready, next_for, not, object_at, option_map, parent_in, parent_of, policy_in, process_create, process_settled, put}
-use Rattle.zl_verify.proofs.Common.{refl, refusal, same_Some, slice_get, state_without, subst, sym, true, unless_allowed, unwrap_or, wakes, without_others}
-use Rattle.zl_verify.proofs.Common.{woken, ℕ, ◌&&◌, ◌<◌, ◌==◌, ◌||◌, ◌∙◌, ◌∷◌, ◌≡◌, ◌⊎◌}
+use Rattle.zl_verify.proofs.Common.{get-put, if◌then◌else◌, inl, inr, is_allowing, is_among, is_created, is_some, koid_in, lacks_need, list_any, listed}
+use Rattle.zl_verify.proofs.Common.{listed_none, lives, made_ready, next_for, not, object_at, option_map, parent_in, parent_of, policy_in, process_create}
+use Rattle.zl_verify.proofs.Common.{process_settled, put, refl, refusal, same_Some, slice_get, state_without, subst, sym, test_fails, true, unless_allowed}
+use Rattle.zl_verify.proofs.Common.{unwrap_or, wakes, without_others, woken, ℕ, ◌&&◌, ◌<◌, ◌==◌, ◌||◌, ◌∙◌, ◌∷◌, ◌≡◌, ◌⊎◌}
 use Rattle.zl_rights.specs.declared.policy.Action.TheVariants as action
 use Rattle.zl_rights.specs.declared.status.Status.TheVariants as status
 use Rattle.zl_verify.proofs.Waking.{turn_by_answer, wakes_by}
-use Rattle.zl_code.proofs.Passing.{listed_none, test_fails}
 use Rattle.zl_verify.proofs.OwnEffect.{other_koid, same_policy}
 use Rattle.zl_verify.proofs.Others.{keys_below, left_by_step}
 use Rattle.zl_verify.proofs.Woken.{allowed_after}

@@ -1,14 +1,11 @@
 -- Steps one after another through counted blocks.
-use Rattle.zl_verify.proofs.Common.{AllBelow, AllByRecursion, AreCounters, Follow, IfSome, IsNested, List, Mark, None, OneOf, Option, Some, Spot, Targets}
-use Rattle.zl_verify.proofs.Common.{[], ap, arith, blocks_at, eqb, false, inl, inr, map, max, min, nat_tests, option_map, option_to_list, places}
-use Rattle.zl_verify.proofs.Common.{places_at, refl, slice_get, spots, spots_from, subst, suc, sym, true, zero, ℕ, ◌*◌, ◌++◌, ◌+◌, ◌-◌, ◌<◌, ◌∙◌, ◌∷◌, ◌≡◌}
-use Rattle.zl_verify.proofs.Common.{◌≤◌, ◌⊎◌}
+use Rattle.zl_verify.proofs.Common.{AllBelow, AllByRecursion, AreCounters, Follow, IfSome, IsNested, List, Longest, Mark, None, OneOf, Option, Some, Spot}
+use Rattle.zl_verify.proofs.Common.{Suits, Targets, [], ap, arith, blocks_at, end_of, eqb, false, imm_of, inl, inr, map, max, min, nat_tests, option_map}
+use Rattle.zl_verify.proofs.Common.{option_to_list, places, places_at, refl, slice_get, spots, spots_from, subst, suc, sym, true, turns_left, zero, ℕ, ◌*◌}
+use Rattle.zl_verify.proofs.Common.{◌++◌, ◌+◌, ◌-◌, ◌<◌, ◌∙◌, ◌∷◌, ◌≡◌, ◌≤◌, ◌⊎◌}
 use Rattle.zl_code.specs.declared.blocks.Mark.TheVariants as mark
-use Rattle.zl_code.specs.Blocks.{IsBlock, end_in, end_of, imm_in, imm_of, opened}
-use Rattle.zl_verify.specs.declared.steps.Longest.{Longest}
-use Rattle.zl_verify.specs.Nested.{Suits}
+use Rattle.zl_code.specs.Blocks.{IsBlock, end_in, imm_in, opened}
 use Rattle.zl_verify.specs.Longest.{FollowBehind, IsReal, IsShort, at_end, best, cut, further, larger, leaf, past, reach, reach_by, turned}
-use Rattle.zl_verify.specs.Peaks.{turns_left}
 use Rattle.zl_verify.specs.Steps.{counters_at, spot_at}
 use Rattle.zl_verify.proofs.Places.{equal_or_not}
 

@@ -5,16 +5,15 @@ use Rattle.zl_verify.proofs.Common.{Request, RightsOf, SAME_RIGHTS, Site, SlotAr
 use Rattle.zl_verify.proofs.Common.{arith, array_fault, bit_and, bits, both, can_be_named, cannot_keep, chan_read_etc, chan_read_slots, copy_of}
 use Rattle.zl_verify.proofs.Common.{default_rights_of, dup, entering_at, entry_at, eq-eqb, eqb-true, examined_all, false, false≢true, fault_of, first_bytes}
 use Rattle.zl_verify.proofs.Common.{first_handles, first_values, get, get_or-set_other, get_or_from_slice_get, gives_ok, handle_operands, has_one}
-use Rattle.zl_verify.proofs.Common.{if◌then◌else◌, info_of, inl, inr, is_empty, is_has, is_some, kept_by, kind_in, kind_number, length, listed, may_choose}
-use Rattle.zl_verify.proofs.Common.{may_get_all, narrowed_value, nat_le, nat_tests, needs, new, new_entry, new_handles, number_at, object_at, packets_at}
-use Rattle.zl_verify.proofs.Common.{process_start, process_with, queue_at, refl, refusal, reg, register_count, replace, rights_in, rights_of, room_in, rounded}
-use Rattle.zl_verify.proofs.Common.{site_of, sizes_of, slice_get, slice_index, slice_index_or, slice_set, slots_filled, subst, suc, sym, taken_handles, taking}
-use Rattle.zl_verify.proofs.Common.{told_of, triple_results, true, uses_of, value_at, with_rights, with_value, within, written, zero, ℕ, ◌&&◌, ◌*◌, ◌+◌, ◌<◌}
-use Rattle.zl_verify.proofs.Common.{◌==◌, ◌∙◌, ◌∷◌, ◌≡◌, ◌≢◌, ◌≤◌}
+use Rattle.zl_verify.proofs.Common.{if◌then◌else◌, info_of, inl, inr, is_empty, is_has, is_some, kept_by, kind_in, kind_number, length, listed, listed_none}
+use Rattle.zl_verify.proofs.Common.{may_choose, may_get_all, narrowed_value, nat_le, nat_tests, needs, new, new_entry, new_handles, number_at, object_at}
+use Rattle.zl_verify.proofs.Common.{packets_at, process_start, process_with, queue_at, refl, refusal, reg, register_count, replace, rights_in, rights_of}
+use Rattle.zl_verify.proofs.Common.{room_in, rounded, site_of, sizes_of, slice_get, slice_index, slice_index_or, slice_set, slots_filled, subst, suc, sym}
+use Rattle.zl_verify.proofs.Common.{taken_handles, taking, test_fails, test_passes, told_of, triple_results, true, uses_of, value_at, with_rights, with_value}
+use Rattle.zl_verify.proofs.Common.{within, written, zero, zeros_in_front, ℕ, ◌&&◌, ◌*◌, ◌+◌, ◌<◌, ◌==◌, ◌∙◌, ◌∷◌, ◌≡◌, ◌≢◌, ◌≤◌}
 use Rattle.zl_rights.specs.declared.kind.Kind.TheVariants as kind
 use Rattle.zl_rights.specs.declared.status.Status.TheVariants as status
 use Rattle.zl_code.specs.declared.history.CallName.TheVariants as name
-use Rattle.zl_code.specs.Asked.{zeros_in_front}
 use Rattle.zl_abs.specs.declared.cause.Cause.TheVariants as cause
 use Rattle.std.proofs.lemmas.Bool.{and_parts, or_parts}
 use Rattle.zl_verify.proofs.Agreeing.{above}
@@ -30,7 +29,6 @@ use Rattle.zl_verify.proofs.Sites.{call, AtSite, of_site}
 use Rattle.zl_verify.proofs.Aligned.{places_end}
 use Rattle.zl_verify.proofs.Standing.{Stands, reads_own}
 use Rattle.zl_verify.proofs.Calm.{entry_rights, signals_few, first_sizes, packets_at_sized, first_rights}
-use Rattle.zl_code.proofs.Passing.{listed_none, test_fails, test_passes}
 use Rattle.zl_abs.proofs.Order.{within_left}
 
 -- ---- a copy of a handle

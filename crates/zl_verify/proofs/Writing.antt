@@ -1,13 +1,12 @@
 -- One register is written, and the table may change at one value.
 use Rattle.zl_verify.proofs.Common.{ANY, AbsVal, Bool, Describes, Entry, Has, Holds, IsAs, IsHandle, IsState, IsTrue, Kind, KindOf, List, None, Option, Rights}
 use Rattle.zl_verify.proofs.Common.{RightsOf, SlotArray, Some, State, Table, Word, ap, arith, can_be_named, cases_eq, false, get_or-set_other, get_or-set_same}
-use Rattle.zl_verify.proofs.Common.{inl, inr, is_has, is_named_well, is_some, keepers, kind_in, length, nat_tests, one_if, owners, owns, place_at}
-use Rattle.zl_verify.proofs.Common.{refl, rights_in, slice_index, slice_set, subst, sym, true, untagged, value_at, with_value, ℕ, ◌+◌, ◌<◌, ◌∙◌, ◌≡◌, ◌≢◌, ◌≤◌}
-use Rattle.zl_verify.proofs.Common.{◌⊎◌}
+use Rattle.zl_verify.proofs.Common.{inl, inr, is_has, is_named_well, is_some, keepers, kind_in, length, nat_tests, one_if, owners, owns, place_at, refl}
+use Rattle.zl_verify.proofs.Common.{rights_in, slice_index, slice_set, subst, sym, true, untagged, value_at, with_long, with_value, ℕ, ◌+◌, ◌<◌, ◌∙◌, ◌≡◌, ◌≢◌}
+use Rattle.zl_verify.proofs.Common.{◌≤◌, ◌⊎◌}
 use Rattle.std.proofs.lemmas.List.{length-set}
 use Rattle.zl_verify.proofs.Owners.{owns_0, owns_it, owns_free, owners-set, owners-with, owners-at, owners-zero, value_at-with, value_at-here, keepers-at}
 use Rattle.zl_verify.proofs.Owners.{keepers-zero, by_register}
-use Rattle.zl_abs.proofs.FineStates.{with_long}
 
 -- ---- what holds anyway
 

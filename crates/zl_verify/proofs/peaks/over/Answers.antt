@@ -1,6 +1,5 @@
-use Rattle.zl_verify.proofs.Common.{nat_le, sym, ◌∙◌}
+use Rattle.zl_verify.proofs.Common.{lengths, nat_le, or_most, sym, ◌∙◌}
 use Rattle.zl_code.proofs.Flat.{never_in_blocks}
-use Rattle.zl_verify.specs.Peaks.{lengths, or_most}
 use Rattle.zl_verify.proofs.Peaking.{flat_peaks, position_read}
 use Rattle.zl_verify.proofs.peaks.over.Goals as goal
 

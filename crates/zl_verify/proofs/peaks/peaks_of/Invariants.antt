@@ -1,5 +1,4 @@
-use Rattle.zl_verify.proofs.Common.{marks_of}
-use Rattle.zl_verify.specs.Peaks.{ArePeaks}
+use Rattle.zl_verify.proofs.Common.{ArePeaks, marks_of}
 use Rattle.zl_verify.proofs.peaks.peaks_of.Given as goal
 
 abbrev pub invariant-loop-place : goal.invariant-loop-place

@@ -1,8 +1,7 @@
 -- In a world that boots no process is blocked, and no wait is registered.
-use Rattle.zl_calls.proofs.Common.{AreBlocked, Bool, IsBoot, IsTrue, IsUnwatched, Library, List, Objects, Option, Statement, [], arith, boot_sound, false}
-use Rattle.zl_calls.proofs.Common.{if◌then◌else◌, is_blocked, is_process, state_passes, subst, sym, true, world_blocked, world_value, ℕ, ◌≡◌}
-use Rattle.zl_code.proofs.Common.{IsSound, Process as ProcessValue}
-use Rattle.zl_calls.specs.declared.process.Process.{Process}
+use Rattle.zl_calls.proofs.Common.{AreBlocked, Bool, IsBoot, IsSound, IsTrue, IsUnwatched, Library, List, Objects, Option, Process, ProcessValue, Statement, []}
+use Rattle.zl_calls.proofs.Common.{arith, boot_sound, false, if◌then◌else◌, is_blocked, is_process, state_passes, subst, sym, true, world_blocked, world_value}
+use Rattle.zl_calls.proofs.Common.{ℕ, ◌≡◌}
 
 pub none_blocked : (lib : Library) (statements : List Statement) (ps : List Process) (r : Objects) (blocked : List ℕ) → IsBoot lib statements (world_value ps r)
     → blocked ≡ [] → AreBlocked ps blocked

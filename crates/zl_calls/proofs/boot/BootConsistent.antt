@@ -1,8 +1,7 @@
 -- What a boot has made meets the invariant of the world, once what isn't held is gone.
-use Rattle.zl_calls.proofs.Common.{AreKeptBut, Cascades, IsMaking, IsTrue, IsUnwatched, LeavesListed, List, Objects, Releases, [], ap, arith, cascades_then}
-use Rattle.zl_calls.proofs.Common.{cases_Bool, false, false≢true, filter, get, inl, inr, is_there, list_any, nat_tests, none-some, none_left, or_left, or_right}
-use Rattle.zl_calls.proofs.Common.{refl, subst, suc, zero, ℕ, ◌++◌, ◌+◌, ◌<◌, ◌==◌, ◌∙◌, ◌∷◌, ◌≡◌, ◌⊎◌}
-use Rattle.zl_calls.specs.declared.process.Process.{Process}
+use Rattle.zl_calls.proofs.Common.{AreKeptBut, Cascades, IsMaking, IsTrue, IsUnwatched, LeavesListed, List, Objects, Process, Releases, [], ap, arith}
+use Rattle.zl_calls.proofs.Common.{cascades_then, cases_Bool, false, false≢true, filter, get, inl, inr, is_there, list_any, nat_tests, none-some, none_left}
+use Rattle.zl_calls.proofs.Common.{or_left, or_right, refl, subst, suc, zero, ℕ, ◌++◌, ◌+◌, ◌<◌, ◌==◌, ◌∙◌, ◌∷◌, ◌≡◌, ◌⊎◌}
 use Rattle.zl_calls.proofs.objects.Settled.{IsSettled, settled}
 
 -- all koids below n

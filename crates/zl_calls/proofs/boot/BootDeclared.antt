@@ -1,15 +1,12 @@
 -- Whether the handles of a statement are those that a checked program declares, and whether its job allows what the program needs.
-use Rattle.zl_calls.proofs.Common.{Bool, Entry, Grant, IsTrue, List, Map, None, Objects, Option, Program, Some, [], allowed, and_parts, ap, are_declared, arith}
-use Rattle.zl_calls.proofs.Common.{body_in, drop, false, false≢true, get, get_or, get_seen, handle_given, handles_given, has_default_rights, if_default}
-use Rattle.zl_calls.proofs.Common.{is_allowing, is_some, job_at, lacks_need, length, list_all, list_any, needs_more, not, option_to_list, refl, suc, sym, true}
-use Rattle.zl_calls.proofs.Common.{world_value, zero, ℕ, ◌&&◌, ◌++◌, ◌+◌, ◌<◌, ◌∙◌, ◌∷◌, ◌≡◌, ◌≢◌, ◌≤◌}
-use Rattle.zl_code.proofs.Common.{Object, at_drop_more, drop_all}
+use Rattle.zl_calls.proofs.Common.{Bool, Entry, Grant, IsTrue, List, Map, None, ObjectValue, Objects, Option, Process, Program, Some, [], action_here, allowed}
+use Rattle.zl_calls.proofs.Common.{and-false, and_parts, ap, are_declared, arith, body_in, drop, false, false≢true, get, get_or, get_seen, handle_given}
+use Rattle.zl_calls.proofs.Common.{handles_given, has_default_rights, if_default, is_allowing, is_some, job_at, lacks_need, length, list_all, list_any}
+use Rattle.zl_calls.proofs.Common.{needs_more, not, option_to_list, refl, suc, sym, true, world_value, zero, ℕ, ◌&&◌, ◌++◌, ◌+◌, ◌<◌, ◌∙◌, ◌∷◌, ◌≡◌, ◌≢◌, ◌≤◌}
+use Rattle.zl_code.proofs.Common.{at_drop_more, drop_all}
 use Rattle.zl_code.specs.declared.image.Start.{Start}
 use Rattle.zl_code.specs.Jobs.{is_declared, is_only_start}
-use Rattle.zl_objects.specs.Jobs.{action_here}
-use Rattle.zl_calls.specs.declared.process.Process.{Process}
 use Rattle.zl_calls.proofs.policy.Policies.{seen_action}
-use Rattle.std.proofs.Math.Bool.{and-false}
 
 -- ---- handles
 
@@ -20,7 +17,7 @@ miscounted [] (e ∷ es) apart = refl
 miscounted (s ∷ ss) [] apart = refl
 miscounted (s ∷ ss) (e ∷ es) apart = rw (miscounted ss es (λ same. apart (ap (λ (n : ℕ). suc n) same))) (and-false (is_declared s e))
 
-module _ (objects : Map Object) where
+module _ (objects : Map ObjectValue) where
   -- each of them may be given
   abbrev may_all : List Grant → Bool
   may_all gs = list_all (λ g. is_some (allowed objects g)) gs

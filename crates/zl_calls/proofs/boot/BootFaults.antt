@@ -1,19 +1,15 @@
 -- Which fault a statement of a boot has, from what the code tests.
-use Rattle.zl_calls.proofs.Common.{Bool, BootCause, Entry, Grant, IsTrue, Kind, Library, List, MOST_GRANTS, MOST_KOIDS, MOST_PROCESSES, Map, None, Objects}
-use Rattle.zl_calls.proofs.Common.{Option, Program, Some, World, [], all_known, allowed, and_le_l, and_parts, ap, are_misfits, arith, bit_and, body_in}
-use Rattle.zl_calls.proofs.Common.{body_value, boot_fault, cases_Bool, default_rights_of, eqb-true, false, false≢true, first_some, get, get_seen, handle_given}
-use Rattle.zl_calls.proofs.Common.{handles_given, has_default_rights, has_key, if_default, inl, inr, is_job, is_some, kind_here, kind_in, kind_of, lacks_need}
-use Rattle.zl_calls.proofs.Common.{length, list_all, map, may_start_with, nat_le, nat_lt, nat_tests, not, object_entry, object_value, option_map}
-use Rattle.zl_calls.proofs.Common.{option_to_list, or_left, or_right, refl, rights_given, rights_if, rights_of, slice_get, slice_get_past, sym, then_some, true}
-use Rattle.zl_calls.proofs.Common.{within, world_value, ℕ, ◌&&◌, ◌++◌, ◌+◌, ◌<◌, ◌^◌, ◌||◌, ◌∙◌, ◌∷◌, ◌≡◌, ◌≤◌, ◌⊎◌}
-use Rattle.zl_code.proofs.Common.{Object as ObjectValue, is_job_body}
+use Rattle.zl_calls.proofs.Common.{Body, Bool, BootCause, Entry, Grant, IsTrue, Kind, Library, List, MOST_GRANTS, MOST_KOIDS, MOST_PROCESSES, Map, None, Object}
+use Rattle.zl_calls.proofs.Common.{ObjectValue, Objects, Option, Process, Program, Some, World, [], all_known, allowed, and_le_l, and_parts, ap, are_misfits}
+use Rattle.zl_calls.proofs.Common.{arith, bit_and, body_in, body_value, boot_fault, cases_Bool, default_rights_of, eqb-true, false, false≢true, first_some, get}
+use Rattle.zl_calls.proofs.Common.{get_seen, handle_given, handles_given, has_default_rights, has_key, if_default, inl, inr, is_job, is_job_body, is_some}
+use Rattle.zl_calls.proofs.Common.{kind_here, kind_in, kind_of, lacks_need, length, list_all, map, may_start_with, nat_le, nat_lt, nat_tests, not, object_entry}
+use Rattle.zl_calls.proofs.Common.{object_value, option_map, option_to_list, or_left, or_right, refl, rights_given, rights_if, rights_of, slice_get}
+use Rattle.zl_calls.proofs.Common.{slice_get_past, sym, then_some, true, within, world_value, ℕ, ◌&&◌, ◌++◌, ◌+◌, ◌<◌, ◌^◌, ◌||◌, ◌∙◌, ◌∷◌, ◌≡◌, ◌≤◌, ◌⊎◌}
 use Rattle.zl_rights.specs.declared.kind.Kind.TheVariants as kind
 use Rattle.zl_code.specs.declared.boot.BootCause.TheVariants as cause
 use Rattle.zl_code.specs.declared.boot.Statement.TheVariants as statement
-use Rattle.zl_objects.specs.declared.object.Body.{Body}
 use Rattle.zl_objects.specs.declared.object.Body.TheVariants as body
-use Rattle.zl_objects.specs.declared.object.Object.{Object}
-use Rattle.zl_calls.specs.declared.process.Process.{Process}
 use Rattle.zl_objects.specs.Objects.{is_job_in, is_job_here}
 use Rattle.zl_calls.proofs.waits.Ending.{kind_there}
 

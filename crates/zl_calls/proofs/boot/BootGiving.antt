@@ -1,23 +1,19 @@
 -- The handles of a statement enter the table of its process, one after another.
-use Rattle.zl_calls.proofs.Common.{Bool, Cpu, Entry, Gives, Grant, Handles, Inserts, IsBare, IsMaking, IsNamed, IsTable, IsTrue, List, Made, Map, None, Objects}
-use Rattle.zl_calls.proofs.Common.{Option, Some, World, [], allowed, and_from, and_parts, ap, arith, body_in, body_value, count_by, count_by-le-length, false}
-use Rattle.zl_calls.proofs.Common.{false≢true, get, get_or, get_seen, handle_given, handle_register, handles_given, has_default_rights, held_once_more, holding}
-use Rattle.zl_calls.proofs.Common.{if_default, is_killed, is_some, length, length-append, length-put_new, length-take-le, list_all, map, may_get, may_get_all}
-use Rattle.zl_calls.proofs.Common.{nat_tests, none-some, object_entry, object_value, option_map, option_to_list, process_given, process_value, process_with}
-use Rattle.zl_calls.proofs.Common.{process_with_all, refl, register_set, same_Some, seen, set_from, slice_set, subst, suc, sym, take, take_all, take_more}
-use Rattle.zl_calls.proofs.Common.{then_some, true, with_handles, zero, ℕ, ◌++◌, ◌+◌, ◌<◌, ◌==◌, ◌^◌, ◌∙◌, ◌∷◌, ◌≡◌, ◌≤◌}
-use Rattle.zl_code.proofs.Common.{Process as ProcessValue, Object as ObjectValue}
-use Rattle.zl_objects.specs.declared.object.Object.{Object}
-use Rattle.zl_calls.specs.declared.process.Process.{Process}
-use Rattle.zl_code.specs.Own.{taken_all}
+use Rattle.zl_calls.proofs.Common.{Bool, Cpu, Entry, Gives, Grant, Handles, Inserts, IsBare, IsMaking, IsNamed, IsTable, IsTrue, List, Made, Map, None, Object}
+use Rattle.zl_calls.proofs.Common.{ObjectValue, Objects, Option, Process, ProcessValue, Some, World, [], allowed, and_from, and_parts, ap, arith, body_in}
+use Rattle.zl_calls.proofs.Common.{body_value, coming, count_by, count_by-le-length, false, false≢true, get, get_or, get_seen, handle_given, handle_register}
+use Rattle.zl_calls.proofs.Common.{handles_given, has_default_rights, held_once_more, holding, if_default, is_killed, is_some, length, length-append}
+use Rattle.zl_calls.proofs.Common.{length-put_new, length-take-le, list_all, map, may_get, may_get_all, more_same, nat_tests, none-some, object_entry}
+use Rattle.zl_calls.proofs.Common.{object_value, option_map, option_to_list, process_given, process_value, process_with, process_with_all, refl, register_set}
+use Rattle.zl_calls.proofs.Common.{same_Some, seen, set_from, slice_set, subst, suc, sym, take, take_all, take_more, taken_all, then_some, true, with_handles}
+use Rattle.zl_calls.proofs.Common.{zero, ℕ, ◌++◌, ◌+◌, ◌<◌, ◌==◌, ◌^◌, ◌∙◌, ◌∷◌, ◌≡◌, ◌≤◌}
 use Rattle.zl_code.proofs.OwnValues.{coming_more, taken_more}
-use Rattle.zl_rights.specs.Values.{coming, offered, taken}
+use Rattle.zl_rights.specs.Values.{offered, taken}
 use Rattle.zl_calls.proofs.calls.Answered.{may_get_inserted}
 use Rattle.zl_calls.proofs.objects.SameBodies.{found_updated, named_updated}
 use Rattle.zl_calls.proofs.tables.Tables.{inserted_table, found_inserted}
 use Rattle.zl_calls.proofs.lists.Updates.{update_unseen}
 use Rattle.zl_calls.proofs.objects.Held.{held_value, holding_sound, more_handles}
-use Rattle.zl_objects.proofs.Whole.{more_same}
 
 -- ---- what the handle that is given names
 

@@ -1,23 +1,19 @@
 -- The statements of a boot on jobs: a job is made in another, and a policy is set.
-use Rattle.zl_calls.proofs.Common.{Bool, BootCause, Condition, Err, IsCauseOf, IsMaking, IsTrue, Job, JobFault, Library, List, Made, Makes, Map, None, Objects}
-use Rattle.zl_calls.proofs.Common.{Ok, OnOk, Option, Result, ShowStates, Some, Status, World, [], ap, arith, body_of, body_value, boot_effect, boot_fault}
-use Rattle.zl_calls.proofs.Common.{conflicts, false, false≢true, first_some, get, has_child, has_child_at, if◌then◌else◌, is_above, is_in_job, is_job}
-use Rattle.zl_calls.proofs.Common.{is_job_at, is_job_here, is_job_in, is_killed, job_at, job_shown, job_within_here, keeper_of, koid_fault, lacks_koids, new_in}
-use Rattle.zl_calls.proofs.Common.{object_value, on_object, policy_changed, process_shown, refl, runs, seen, setting, setting_policy, subst, sym, then_some}
-use Rattle.zl_calls.proofs.Common.{true, with_new, with_object, with_policy_body, with_policy_set, ℕ, ⊤, ◌||◌, ◌∙◌, ◌∷◌, ◌≡◌}
-use Rattle.zl_code.proofs.Common.{Action, Object as ObjectValue}
-use Rattle.zl_code.specs.Jobs.{job_within}
+use Rattle.zl_calls.proofs.Common.{Body, Bool, BootCause, Condition, Err, IsCauseOf, IsMaking, IsTrue, Job, JobFault, Library, List, Made, Makes, Map, None}
+use Rattle.zl_calls.proofs.Common.{Object, ObjectValue, Objects, Ok, OnOk, Option, Process, Result, ShowStates, Some, Status, World, [], ap, arith, body_of}
+use Rattle.zl_calls.proofs.Common.{body_value, boot_effect, boot_fault, conflicts, false, false≢true, first_some, get, has_child, has_child_at, if◌then◌else◌}
+use Rattle.zl_calls.proofs.Common.{is_above, is_deepest_here, is_in_job, is_job, is_job_at, is_job_here, is_job_in, is_killed, job_at, job_shown, job_within}
+use Rattle.zl_calls.proofs.Common.{job_within_here, keeper_of, koid_fault, lacks_koids, new_in, object_value, on_object, policy_changed, process_shown, refl}
+use Rattle.zl_calls.proofs.Common.{runs, seen, setting, setting_policy, subst, sym, then_some, true, with_new, with_object, with_policy_body, with_policy_set}
+use Rattle.zl_calls.proofs.Common.{ℕ, ⊤, ◌||◌, ◌∙◌, ◌∷◌, ◌≡◌}
+use Rattle.zl_code.proofs.Common.{Action}
 use Rattle.zl_code.specs.declared.boot.BootCause.TheVariants as cause
 use Rattle.zl_code.specs.declared.boot.Statement.TheVariants as statement
 use Rattle.zl_rights.specs.declared.policy.Mode.TheVariants as mode
 use Rattle.zl_rights.specs.declared.status.Status.TheVariants as status
-use Rattle.zl_jobs.specs.Jobs.{is_deepest_here}
 use Rattle.zl_jobs.specs.declared.job.JobFault.TheVariants as fault
-use Rattle.zl_objects.specs.declared.object.Body.{Body}
 use Rattle.zl_objects.specs.declared.object.Body.TheVariants as body
-use Rattle.zl_objects.specs.declared.object.Object.{Object}
 use Rattle.zl_objects.specs.Jobs.{policy_answer}
-use Rattle.zl_calls.specs.declared.process.Process.{Process}
 use Rattle.zl_calls.proofs.objects.Active.{shown_all}
 use Rattle.zl_calls.proofs.boot.BootFaults.{job_seen}
 use Rattle.zl_calls.proofs.boot.BootObjects.{object_makes}

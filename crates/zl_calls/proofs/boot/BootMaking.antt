@@ -1,14 +1,14 @@
 -- One process more, with its handles: what was made goes on being what the definitions make.
-use Rattle.zl_calls.proofs.Common.{Agrees, All, All-append, All-cons, All-nil, AreNamed, Bool, Entry, Err, Found, Gives, Grant, Image, IsBare, IsMaking}
-use Rattle.zl_calls.proofs.Common.{IsNamed, AreSound, IsTable, IsTrue, Library, List, Made, Makes, Message, None, Objects, Ok, OnOk, Option, ProcessBody}
-use Rattle.zl_calls.proofs.Common.{Program, Result, Some, World, any_found, ap, arith, body_in, boot_effect, boot_fault, can_start, cases_Bool, cond, count_by}
-use Rattle.zl_calls.proofs.Common.{count_by-le-length, counted_any, cpu_given, created_process, eqb-true, false, false≢true, get, handles_given, handles_to}
-use Rattle.zl_calls.proofs.Common.{has_ended, inl, inr, is_in_job, is_job_at, is_killed, is_process, is_some, length, length-append, list_any, lives, map}
-use Rattle.zl_calls.proofs.Common.{may_get_all, new_object, none-some, option_map, or_right, process_entry, process_given, process_value, process_with}
-use Rattle.zl_calls.proofs.Common.{process_with_all, put, refl, root_alone, runs, same_Some, seen, set_from, slice_get, slice_set, started_cpu, started_process}
-use Rattle.zl_calls.proofs.Common.{started_with, state_value, subst, suc, sym, true, with_handles, with_new, with_object, with_process, world_value, zero, ℕ, ⊤}
-use Rattle.zl_calls.proofs.Common.{◌++◌, ◌+◌, ◌<◌, ◌==◌, ◌∙◌, ◌∷◌, ◌≡◌, ◌≤◌, []}
-use Rattle.zl_code.proofs.Common.{Process as ProcessValue, State as StateValue, is_job_body}
+use Rattle.zl_calls.proofs.Common.{Agrees, All, All-append, All-cons, All-nil, AreNamed, AreSound, Bool, Entry, Err, Found, Gives, Grant, Image, IsBare}
+use Rattle.zl_calls.proofs.Common.{IsMaking, IsNamed, IsTable, IsTrue, Library, List, Made, Makes, Message, None, Object, Objects, Ok, OnOk, Option, Process}
+use Rattle.zl_calls.proofs.Common.{ProcessBody, ProcessValue, Program, Result, Some, State, StateValue, World, [], any_found, ap, arith, body_in, boot_effect}
+use Rattle.zl_calls.proofs.Common.{boot_fault, can_start, cases_Bool, coming, cond, count_by, count_by-le-length, counted_any, cpu_given, created_process}
+use Rattle.zl_calls.proofs.Common.{eqb-true, false, false≢true, get, handles_given, handles_to, has_ended, inl, inr, is_in_job, is_job_at, is_job_body}
+use Rattle.zl_calls.proofs.Common.{is_killed, is_process, is_some, length, length-append, list_any, lives, map, may_get_all, new_object, none-some, option_map}
+use Rattle.zl_calls.proofs.Common.{or_right, process_entry, process_given, process_value, process_with, process_with_all, put, queue_held, refl, root_alone}
+use Rattle.zl_calls.proofs.Common.{runs, same_Some, seen, set_from, slice_get, slice_set, started_cpu, started_process, started_with, state_value, subst, suc}
+use Rattle.zl_calls.proofs.Common.{sym, taken_all, true, with_handles, with_new, with_object, with_process, world_value, zero, ℕ, ⊤, ◌++◌, ◌+◌, ◌<◌, ◌==◌, ◌∙◌}
+use Rattle.zl_calls.proofs.Common.{◌∷◌, ◌≡◌, ◌≤◌}
 use Rattle.std.specs.Result.{is_err}
 use Rattle.zl_code.specs.declared.boot.Statement.TheVariants as statement
 use Rattle.zl_code.specs.Starting.{blank_cpu}
@@ -16,16 +16,10 @@ use Rattle.zl_code.proofs.CanStart.{CanStart, started_with_all, started_may_get}
 use Rattle.zl_jobs.specs.Jobs.{root_job as job_value}
 use Rattle.zl_objects.specs.declared.object.Body.TheVariants as body
 use Rattle.zl_objects.specs.declared.object.Life.TheVariants as life
-use Rattle.zl_objects.specs.declared.object.Object.{Object}
-use Rattle.zl_calls.specs.declared.process.Process.{Process}
 use Rattle.zl_calls.specs.Makes.{IsFresh}
-use Rattle.zl_code.specs.Own.{taken_all}
 use Rattle.zl_code.proofs.OwnValues.{taken_fresh}
-use Rattle.zl_rights.specs.Values.{coming}
-use Rattle.zl_calls.specs.declared.process.State.{State}
 use Rattle.zl_calls.specs.declared.process.State.TheVariants as state
 use Rattle.zl_calls.proofs.boot.BootFaults.{job_seen}
-use Rattle.zl_objects.specs.Objects.{queue_held}
 use Rattle.zl_calls.proofs.objects.Grown.{found_grown, grown_seen, job_grown}
 use Rattle.zl_calls.proofs.processes.OneProcess.{counts, new_is, process_sound, processes_are}
 

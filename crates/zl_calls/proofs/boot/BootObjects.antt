@@ -1,15 +1,11 @@
 -- Objects that a statement makes, and that no handle names yet: an event, a port, the two ends of a pair.
-use Rattle.zl_calls.proofs.Common.{Agrees, AreSound, Bool, BootCause, Err, IsCauseOf, IsMaking, IsTrue, Library, List, MOST_KOIDS, Made, Makes, Map, None}
-use Rattle.zl_calls.proofs.Common.{Objects, Ok, OnOk, Pair, Result, Statement, World, [], ap, arith, body_value, boot_effect, boot_fault, cond, false}
-use Rattle.zl_calls.proofs.Common.{is_in_job, is_killed, is_process, koid_fault, making_pair, may_boot, nat_lt, nat_tests, none-some, refl, runs, seen, subst}
-use Rattle.zl_calls.proofs.Common.{sym, then_some, true, with_new, with_object, world_value, ℕ, ⊤, ◌+◌, ◌<◌, ◌==◌, ◌^◌, ◌∙◌, ◌≡◌, ◌≤◌}
-use Rattle.zl_code.proofs.Common.{State, Object as ObjectValue}
+use Rattle.zl_calls.proofs.Common.{Agrees, AreSound, Body, Bool, BootCause, Err, IsCauseOf, IsMaking, IsTrue, Library, List, MOST_KOIDS, Made, Makes, Map, None}
+use Rattle.zl_calls.proofs.Common.{Object, ObjectValue, Objects, Ok, OnOk, Pair, Process, Result, StateValue, Statement, World, [], ap, arith, body_value}
+use Rattle.zl_calls.proofs.Common.{boot_effect, boot_fault, cond, end_to, false, is_in_job, is_killed, is_process, koid_fault, making_pair, may_boot, nat_lt}
+use Rattle.zl_calls.proofs.Common.{nat_tests, none-some, queue_held, refl, runs, seen, subst, sym, then_some, true, with_new, with_object, with_pair}
+use Rattle.zl_calls.proofs.Common.{world_value, ℕ, ⊤, ◌+◌, ◌<◌, ◌==◌, ◌^◌, ◌∙◌, ◌≡◌, ◌≤◌}
 use Rattle.zl_code.specs.declared.boot.BootCause.TheVariants as cause
-use Rattle.zl_objects.specs.declared.object.Body.{Body}
-use Rattle.zl_objects.specs.declared.object.Object.{Object}
 use Rattle.zl_objects.specs.declared.object.Pair.TheVariants as pair
-use Rattle.zl_objects.specs.Objects.{end_to, queue_held, with_pair}
-use Rattle.zl_calls.specs.declared.process.Process.{Process}
 use Rattle.zl_code.specs.OwnBoot.{own_given}
 use Rattle.zl_calls.proofs.objects.Counting.{queues_grown, same_tables}
 use Rattle.zl_calls.proofs.objects.Grown.{end_quiet, found_grown, grown_seen, grown_sound, none_queued}
@@ -27,7 +23,7 @@ module _ (ps : List Process) (r : Objects) (making : IsMaking ps [] r) (b : Body
   grown = with_new r b 0
 
   -- no message is in it, and it agrees with there being no such process
-  pub grown_making : queue_held b ≡ [] → (((test : State → Bool) → is_process (world_value ps r) test n ≡ false) → Agrees (world_value ps r) n b)
+  pub grown_making : queue_held b ≡ [] → (((test : StateValue → Bool) → is_process (world_value ps r) test n ≡ false) → Agrees (world_value ps r) n b)
       → IsTrue (is_in_job grown.objects b) → n < 2 ^ 62 → is_killed b ≡ false → IsMaking ps [] grown
   grown_making empty quiet in_job koid unkilled = record {
     sound = grown_sound ps [] r sound b 0 quiet empty in_job koid refl [] (λ j. none (n == j));
@@ -80,7 +76,7 @@ module _ (lib : Library) (before : Made) (making : IsMaking before.processes.ite
   -- one that makes one object, and that lacks at most a koid
   pub object_makes : (s : Statement) (b : Body) → boot_fault lib (seen before) s ≡ koid_fault before → IsTrue (may_boot lib (seen before) s [])
       → with_object (seen before) (body_value b) ≡ boot_effect lib (seen before) s []
-      → own_given s ≡ [] → queue_held b ≡ [] → (((test : State → Bool) → is_process (seen before) test k ≡ false) → Agrees (seen before) k b)
+      → own_given s ≡ [] → queue_held b ≡ [] → (((test : StateValue → Bool) → is_process (seen before) test k ≡ false) → Agrees (seen before) k b)
       → IsTrue (is_in_job (with_new before.objects b 0).objects b) → is_killed b ≡ false
       → (x : Result ⊤ BootCause) (after : Made) → OnOk x (koid_fault before ≡ None) → OnOk x (after ≡ record before { objects = with_new before.objects b 0 })
       → OnOk x (Makes lib s before after)

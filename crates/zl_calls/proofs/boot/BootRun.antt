@@ -1,19 +1,12 @@
 -- One statement after another: what was made is what the definitions make, up to the first fault.
-use Rattle.zl_calls.proofs.Common.{AllByRecursion, BootCause, FirstFault, Boots, IsCauseOf, IsMaking, IsReached, IsTrue, Library, List, MOST_ITEMS, Made}
-use Rattle.zl_calls.proofs.Common.{Makes, None, Option, Some, Statement, World, [], ap, arith, at_limit, at_statement, boot_effect, boot_fault}
-use Rattle.zl_calls.proofs.Common.{get_or, length, may_boot, most_word, origin, refl, root_alone, seen}
-use Rattle.zl_calls.proofs.Common.{slice_get-get_or, sym, take, take_all, take_more, word_of, ℕ, ◌++◌, ◌+◌, ◌<◌, ◌∙◌, ◌∷◌, ◌≡◌, ◌≢◌, ◌≤◌}
-use Rattle.zl_calls.proofs.Common.{All, All-head, All-nil, All-tail, Bool, Map, Ready, Settles, has_key, lives, map, process_entry, state_value, true}
-use Rattle.zl_rights.proofs.Settling.{Settles-exists, Settles-unique}
+use Rattle.zl_calls.proofs.Common.{All, All-head, All-nil, All-tail, AllByRecursion, Bool, BootCause, Boots, FirstFault, IsCauseOf, IsMaking, IsReached, IsTrue}
+use Rattle.zl_calls.proofs.Common.{Library, List, MOST_ITEMS, Made, Makes, Map, None, Object, Option, Process, Ready, Settles, Settles-exists, Settles-unique}
+use Rattle.zl_calls.proofs.Common.{Some, State, Statement, World, [], ap, arith, at_limit, at_statement, boot_effect, boot_fault, free_entry, get_or, has_key}
+use Rattle.zl_calls.proofs.Common.{left_beside, left_state, length, lives, map, may_boot, most_word, origin, process_entry, refl, root_alone, seen, settled}
+use Rattle.zl_calls.proofs.Common.{slice_get-get_or, state_value, sym, take, take_all, take_more, true, word_of, ℕ, ◌++◌, ◌+◌, ◌<◌, ◌∙◌, ◌∷◌, ◌≡◌, ◌≢◌, ◌≤◌}
 use Rattle.zl_code.specs.declared.boot.BootCause.TheVariants as cause
-use Rattle.zl_rights.specs.Settled.{settled}
 use Rattle.zl_code.specs.OwnBoot.{fresh_free, own_boot, own_given, own_made}
-use Rattle.zl_objects.specs.declared.object.Object.{Object}
-use Rattle.zl_calls.specs.Leaving.{left_beside, left_state}
 use Rattle.zl_calls.specs.Makes.{IsFresh, own_seen}
-use Rattle.zl_calls.specs.World.{free_entry}
-use Rattle.zl_calls.specs.declared.process.Process.{Process}
-use Rattle.zl_calls.specs.declared.process.State.{State}
 use Rattle.zl_calls.specs.declared.process.State.TheVariants as state
 use Rattle.zl_calls.proofs.boot.BootMaking.{starts_making}
 

@@ -1,15 +1,13 @@
 -- A call that looks at registered waits: it is done beside them and any blocked processes, or refused with nothing changed.
-use Rattle.zl_calls.proofs.Common.{Bool, Does, Err, Handles, IsConsistent, Library, List, Objects, Ok, Option, Outcome, Replies, Result, Site, Status, Wait}
-use Rattle.zl_calls.proofs.Common.{World, [], ap, may_want, plain_refusal, replied, replied_among, status_of, subst, sym, taken, values_of, with_waiters}
-use Rattle.zl_calls.proofs.Common.{world_blocked, world_value, ℕ, ◌∙◌, ◌≡◌}
+use Rattle.zl_calls.proofs.Common.{Bool, Does, Err, Handles, IsConsistent, Library, List, Objects, Ok, Option, Outcome, Process, Replies, Result, Site, Status}
+use Rattle.zl_calls.proofs.Common.{Wait, World, [], ap, may_want, plain_refusal, remove_all, replied, replied_among, status_of, subst, sym, taken}
+use Rattle.zl_calls.proofs.Common.{taken_handles, values_of, with_waiters, without_handles, world_blocked, world_value, ℕ, ◌∙◌, ◌≡◌}
 use Rattle.zl_rights.specs.declared.status.Status.TheVariants as status
 use Rattle.zl_code.specs.declared.history.Outcome.TheVariants as outcome
-use Rattle.zl_calls.specs.declared.process.Process.{Process}
 use Rattle.zl_calls.proofs.calls.Answered.{IsWrite, same_world}
 use Rattle.zl_calls.proofs.calls.DoneCalls.{IsCalledAmong}
 use Rattle.zl_calls.proofs.calls.Owned.{own_refused}
 use Rattle.zl_calls.proofs.calls.Refused.{TellsNothing, answers, refused_calls, refused_own}
-use Rattle.zl_calls.proofs.Common.{remove_all, taken_handles, without_handles}
 use Rattle.zl_calls.proofs.processes.Written.{refusal_keeps}
 
 -- a process of the world, before and after its call

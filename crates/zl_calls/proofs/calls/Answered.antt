@@ -1,14 +1,10 @@
 -- From what a call does to its parts to the relation of calls.
-use Rattle.zl_calls.proofs.Common.{Entry, Err, Handles, IfSome, Inserts, IsTrue, List, Map, None, Objects, Ok, Option, Replies, Request, Result}
-use Rattle.zl_calls.proofs.Common.{Site, Some, Status}
-use Rattle.zl_calls.proofs.Common.{World, [], and_from, ap, arith, cpu_answered, eq-eqb, get, map, may_get, may_get_all, nat_tests, no_value, object_value}
-use Rattle.zl_calls.proofs.Common.{on_object, on_process, process_entry, process_value, process_with, put, refl, replied, status_of, subst, sym, table_of, true}
-use Rattle.zl_calls.proofs.Common.{update, values_of, world_value, ℕ, ⊤, ◌∙◌, ◌∷◌, ◌≡◌}
-use Rattle.zl_code.proofs.Common.{Object as ObjectValue, Process as ProcessValue}
-use Rattle.zl_objects.specs.declared.object.Object.{Object}
+use Rattle.zl_calls.proofs.Common.{Entry, Err, Handles, IfSome, Inserts, IsTrue, List, Map, None, Object, ObjectValue, Objects, Ok, Option, Process}
+use Rattle.zl_calls.proofs.Common.{ProcessValue, Replies, Request, Result, Site, Some, Status, World, [], and_from, ap, arith, cpu_answered, eq-eqb, free_entry}
+use Rattle.zl_calls.proofs.Common.{free_of, get, map, may_get, may_get_all, nat_tests, no_value, object_value, on_object, on_process, process_entry}
+use Rattle.zl_calls.proofs.Common.{process_value, process_with, put, refl, replied, status_of, subst, sym, table_of, true, update, values_of, world_value, ℕ, ⊤}
+use Rattle.zl_calls.proofs.Common.{◌∙◌, ◌∷◌, ◌≡◌}
 use Rattle.zl_rights.specs.declared.status.Status.TheVariants as status
-use Rattle.zl_calls.specs.World.{free_entry, free_of}
-use Rattle.zl_calls.specs.declared.process.Process.{Process}
 use Rattle.zl_calls.proofs.lists.Updates.{update_itself, update_seen, update_twice}
 
 -- the site, with this request in place of its own

@@ -1,15 +1,14 @@
 -- The call wait_async, from its table and objects to a step beside the registered waits.
-use Rattle.zl_calls.proofs.Common.{AtCall, CallName, IsAnswered, IsConsistent, Library, List, Objects, Outcome, Ready, RegistersWait, Replies, Site, Some}
-use Rattle.zl_calls.proofs.Common.{Values, WAIT, WRITE, WaitAsyncDoes, World, [], any, ap, async_refusal, effect, get, gives_ok, gives_refused, handle_operands}
-use Rattle.zl_calls.proofs.Common.{insert_all, is_mask, listed, may_choose, may_register_here, new_handles, next_for, no_value, not, operands_fault}
-use Rattle.zl_calls.proofs.Common.{plain_refusal, process_value, refl, remove_all, replied, state_value, subst, sym, taken_handles, told_by, wait_async}
-use Rattle.zl_calls.proofs.Common.{wait_for, wait_of, wait_value, wants_memory, watching, world_blocked, world_value, ℕ, ◌++◌, ◌+◌, ◌∙◌, ◌∷◌, ◌≡◌}
+use Rattle.zl_calls.proofs.Common.{AtCall, CallName, IsAnswered, IsConsistent, Library, List, Objects, Outcome, Process, Ready, RegistersWait, Replies, Site}
+use Rattle.zl_calls.proofs.Common.{Some, Values, WAIT, WRITE, WaitAsyncDoes, World, [], any, ap, async_refusal, effect, get, gives_ok, gives_refused}
+use Rattle.zl_calls.proofs.Common.{handle_operands, insert_all, is_mask, listed, may_choose, may_register_here, new_handles, next_for, no_value, not}
+use Rattle.zl_calls.proofs.Common.{operands_fault, plain_refusal, process_value, refl, remove_all, replied, state_value, subst, sym, taken_handles, told_by}
+use Rattle.zl_calls.proofs.Common.{wait_async, wait_for, wait_of, wait_value, wants_memory, watching, world_blocked, world_value, ℕ, ◌++◌, ◌+◌, ◌∙◌, ◌∷◌, ◌≡◌}
 use Rattle.zl_rights.specs.World.{Wait as WaitValue}
 use Rattle.zl_rights.specs.declared.kind.Kind.TheVariants as kind
 use Rattle.zl_rights.specs.declared.status.Status.TheVariants as status
 use Rattle.zl_code.specs.declared.history.Outcome.TheVariants as outcome
 use Rattle.zl_objects.specs.declared.wait.Wait.{Wait}
-use Rattle.zl_calls.specs.declared.process.Process.{Process}
 use Rattle.zl_calls.proofs.calls.AmongWaits.{answered_among, ends_among}
 use Rattle.zl_calls.proofs.calls.Owned.{own_plain}
 use Rattle.zl_calls.proofs.calls.Answered.{IsWrite, asking, same_world, table_is}

@@ -1,6 +1,6 @@
 -- The call port_cancel, from its table and objects to a step beside the registered waits.
-use Rattle.zl_calls.proofs.Common.{AtCall, CallName, Cancels, IsAnswered, IsConsistent, Library, List, Objects, Outcome, Packet, Port, PortCancelDoes, Ready}
-use Rattle.zl_calls.proofs.Common.{Replies, Site, Source, Values, WRITE, World, [], any, cancel_refusal, changing_port, effect, filter, get, gives_ok}
+use Rattle.zl_calls.proofs.Common.{AtCall, CallName, Cancels, IsAnswered, IsConsistent, Library, List, Objects, Outcome, Packet, Port, PortCancelDoes, Process}
+use Rattle.zl_calls.proofs.Common.{Ready, Replies, Site, Source, Values, WRITE, World, [], any, cancel_refusal, changing_port, effect, filter, get, gives_ok}
 use Rattle.zl_calls.proofs.Common.{gives_refused, handle_operands, insert_all, is_from, is_keyed, list_any, listed, may_choose, new_handles, next_for, no_value}
 use Rattle.zl_calls.proofs.Common.{not, object_at, on_object, operands_fault, packets_cancelled, packets_found, plain_refusal, port_cancel, process_value, refl}
 use Rattle.zl_calls.proofs.Common.{remove_all, replied, source_at, source_of, state_value, taken_handles, told_by, wants_nothing, without_keyed}
@@ -8,7 +8,6 @@ use Rattle.zl_calls.proofs.Common.{without_packets, world_blocked, world_value, 
 use Rattle.zl_rights.specs.declared.kind.Kind.TheVariants as kind
 use Rattle.zl_rights.specs.declared.status.Status.TheVariants as status
 use Rattle.zl_code.specs.declared.history.Outcome.TheVariants as outcome
-use Rattle.zl_calls.specs.declared.process.Process.{Process}
 use Rattle.zl_calls.proofs.calls.AmongWaits.{answered_among, ends_among}
 use Rattle.zl_calls.proofs.calls.Owned.{own_plain}
 use Rattle.zl_calls.proofs.calls.Answered.{IsWrite, asking, table_is}

@@ -1,15 +1,12 @@
 -- What wait_async and port_cancel find: the handles of the caller, and that where no packet passes a test none leaves the port.
-use Rattle.zl_calls.proofs.Common.{Bool, EndsWaits, Entry, Err, Handles, IsTrue, List, Map, None, Objects, Ok, Option, Packet, PortCancelDoes, Signals, Some}
-use Rattle.zl_calls.proofs.Common.{WAIT, WRITE, WaitAsyncDoes, [], ap, at_port, bits, cases_Bool, changed_port, changing_port, eqb-true, false, filter, get}
-use Rattle.zl_calls.proofs.Common.{granted, inl, inr, is_from, is_keyed, is_mask, length, list_any, looked_up, may_register_here, none-some, not, option_map}
-use Rattle.zl_calls.proofs.Common.{packets_found, packets_of, port_at, refl, same_Some, source_of, sym, true, update, watching, without_packets, ℕ, ◌==◌, ◌||◌}
-use Rattle.zl_calls.proofs.Common.{◌∙◌, ◌∷◌, ◌≡◌, ◌⊎◌}
+use Rattle.zl_calls.proofs.Common.{Body, Bool, EndsWaits, Entry, Err, Handles, IsTrue, List, Map, None, Object, Objects, Ok, Option, Packet, PortCancelDoes}
+use Rattle.zl_calls.proofs.Common.{Signals, Some, WAIT, WRITE, WaitAsyncDoes, [], ap, at_port, bits, cases_Bool, changed_port, changing_port, eqb-true, false}
+use Rattle.zl_calls.proofs.Common.{filter, get, granted, inl, inr, is_from, is_keyed, is_mask, length, list_any, looked_up, may_register_here, none-some}
+use Rattle.zl_calls.proofs.Common.{none_raised, not, option_map, packets_found, packets_of, port_at, refl, same_Some, source_of, sym, true, update, watching}
+use Rattle.zl_calls.proofs.Common.{without_packets, ℕ, ◌==◌, ◌||◌, ◌∙◌, ◌∷◌, ◌≡◌, ◌⊎◌}
 use Rattle.std.proofs.Math.Nat.{suc-ne-zero}
 use Rattle.zl_rights.specs.declared.status.Status.TheVariants as status
-use Rattle.zl_objects.specs.declared.object.Body.{Body}
 use Rattle.zl_objects.specs.declared.object.Body.TheVariants as body
-use Rattle.zl_objects.specs.declared.object.Object.{Object}
-use Rattle.zl_code.proofs.SoundKept.{none_raised}
 
 -- ---- what is counted
 

@@ -1,17 +1,16 @@
 -- That a call is done: it is a step up to where processes wake, and the invariant holds afterwards.
 use Rattle.zl_calls.proofs.Common.{AtCall, Bool, CallName, Does, Err, Handles, IsActed, IsAnswered, IsConsistent, Library, List, Objects, Ok, Option, Outcome}
-use Rattle.zl_calls.proofs.Common.{PlainCalls, Ready, Replies, Result, Site, Status, Told, World, [], ap, may_want, next_for, plain_refusal, process_value}
-use Rattle.zl_calls.proofs.Common.{replied, state_value, status_of, subst, sym, taken, told_by, values_of, world_blocked, world_value, ℕ, ◌∙◌, ◌≡◌}
+use Rattle.zl_calls.proofs.Common.{PlainCalls, Process, Ready, Replies, Result, Site, Status, Told, World, [], ap, is_process, lives, may_want, next_for}
+use Rattle.zl_calls.proofs.Common.{plain_refusal, process_value, remove_all, replied, state_value, status_of, subst, sym, taken, taken_handles, told_by, true}
+use Rattle.zl_calls.proofs.Common.{values_of, without_handles, world_blocked, world_value, ℕ, ◌∙◌, ◌≡◌}
 use Rattle.zl_rights.specs.declared.status.Status.TheVariants as status
 use Rattle.zl_code.specs.declared.history.Outcome.TheVariants as outcome
 use Rattle.zl_code.specs.declared.history.TraceItem.TheVariants as item
-use Rattle.zl_calls.specs.declared.process.Process.{Process}
 use Rattle.zl_calls.proofs.calls.Answered.{IsWrite, same_world}
 use Rattle.zl_calls.proofs.step.FromConsistent.{IsFree, call_settles}
 use Rattle.zl_calls.proofs.processes.Departed.{settled_world}
 use Rattle.zl_calls.proofs.calls.Owned.{IsOwn, IsOwnCall, own_call_of, own_refused}
 use Rattle.zl_calls.proofs.calls.Refused.{TellsNothing, answers, refused_calls, refused_own}
-use Rattle.zl_calls.proofs.Common.{is_process, lives, remove_all, taken_handles, true, without_handles}
 use Rattle.zl_calls.proofs.objects.Settled.{still_settles}
 use Rattle.zl_calls.proofs.processes.Written.{refusal_keeps}
 

@@ -1,18 +1,14 @@
 -- The call event_create, and those that change signals, signal and signal_peer, each from its table and objects to a step.
-use Rattle.zl_calls.proofs.Common.{Entry, IsConsistent, IsNamed, Library, List, Map, None, Objects, Replies, SIGNAL, SIGNAL_PEER, Site, Some, Values, World, []}
-use Rattle.zl_calls.proofs.Common.{ap, bits, body_in, body_of, body_value, changing, effect, event_create, get, get_seen, gives_ok, gives_refused}
-use Rattle.zl_calls.proofs.Common.{handle_operands, has_koids, has_room, insert_all, is_some, kind_of, listed, map, may_choose, new_handles, no_value, not}
-use Rattle.zl_calls.proofs.Common.{object_changed, object_entry, on_object, one_value, operands_fault, peer_here, plain_refusal, process_value, raised_changed}
-use Rattle.zl_calls.proofs.Common.{refl, remove_all, replied, runs, settable_at, settable_of, signal, signal_peer, sym, taken_handles, told_by}
-use Rattle.zl_calls.proofs.Common.{wants_nothing, within, world_value, ℕ, ⊤, ◌∙◌, ◌∷◌, ◌≡◌}
-use Rattle.zl_code.specs.Tests.{peer_at}
+use Rattle.zl_calls.proofs.Common.{Body, Entry, IsConsistent, IsNamed, Library, List, Map, None, Object, Objects, Process, Replies, SIGNAL, SIGNAL_PEER, Site}
+use Rattle.zl_calls.proofs.Common.{Some, Values, World, [], ap, bits, body_in, body_of, body_value, changing, effect, event_create, get, get_seen, gives_ok}
+use Rattle.zl_calls.proofs.Common.{gives_refused, handle_operands, has_koids, has_room, insert_all, is_some, kind_of, listed, map, may_choose, new_handles}
+use Rattle.zl_calls.proofs.Common.{no_value, not, object_changed, object_entry, on_object, one_value, operands_fault, peer_at, peer_here, plain_refusal}
+use Rattle.zl_calls.proofs.Common.{process_value, raised_changed, refl, remove_all, replied, runs, settable_at, settable_of, signal, signal_peer, sym}
+use Rattle.zl_calls.proofs.Common.{taken_handles, told_by, wants_nothing, within, world_value, ℕ, ⊤, ◌∙◌, ◌∷◌, ◌≡◌}
 use Rattle.zl_rights.specs.declared.kind.Kind.TheVariants as kind
 use Rattle.zl_rights.specs.declared.status.Status.TheVariants as status
 use Rattle.zl_code.specs.declared.history.Outcome.TheVariants as outcome
-use Rattle.zl_objects.specs.declared.object.Body.{Body}
 use Rattle.zl_objects.specs.declared.object.Body.TheVariants as body
-use Rattle.zl_objects.specs.declared.object.Object.{Object}
-use Rattle.zl_calls.specs.declared.process.Process.{Process}
 use Rattle.zl_calls.specs.calls.Event.{EventCreateDoes, SignalsObject, SignalDoes, signal_refusal, SignalsPeer, SignalPeerDoes}
 use Rattle.zl_calls.specs.calls.Event.{peer_signal_refusal, may_change_at}
 use Rattle.zl_calls.proofs.calls.Owned.{own_plain}

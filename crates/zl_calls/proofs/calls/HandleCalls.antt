@@ -1,25 +1,22 @@
 -- The calls on handles, close, dup, replace and handle_info, each from its table and objects to a step.
 use Rattle.zl_calls.proofs.Common.{AreSound, AtCall, Bool, CallName, CloseDoes, Closes, DUPLICATE, Does, DupDoes, Dups, Entry, Err, HandleInfoDoes}
-use Rattle.zl_calls.proofs.Common.{IsConsistent, IsNamed, IsRefusedBy, IsTable, IsTrue, Library, List, Map, None, Objects, Ok, Option, PlainCalls, Ready}
-use Rattle.zl_calls.proofs.Common.{Refused, ReplaceDoes, Replaces, Replies, Result, Site, Some, Status, Values, World, [], any, ap, arith, bits, cases_Bool}
-use Rattle.zl_calls.proofs.Common.{close, close_answer, cond, copy_of, cpu_answered, default_rights_of, dup, dup_refusal, effect, entry_at, eq-eqb, eqb-true}
-use Rattle.zl_calls.proofs.Common.{false, first_some, get, get-put, get-update, get-without, gives_ok, gives_refused, granted, handle_info, handle_operands}
-use Rattle.zl_calls.proofs.Common.{handles_to, has_key, has_key-update, has_place, has_room, has_room_in, held_once_more, holding, if◌then◌else◌, info_values}
-use Rattle.zl_calls.proofs.Common.{inl, inr, insert_all, is_empty, is_process, is_some, is_sorted, is_sorted-update, length, listed, lives, looked_up, map}
-use Rattle.zl_calls.proofs.Common.{may_choose, narrowed, nat_cmp, nat_lt, nat_tests, new_handles, next_for, no_value, not, object_value, on_process, one_value}
-use Rattle.zl_calls.proofs.Common.{operands_fault, option_map, option_or, passes, plain_refusal, process_entry, process_value, process_with, process_without}
-use Rattle.zl_calls.proofs.Common.{put, refl, remove_all, replace, replace_refusal, replied, result_err, same_Some, same_map, sorted_put, sorted_without}
-use Rattle.zl_calls.proofs.Common.{state_value, status_of, subst, sym, table_of, taken, taken_handles, told_by, true, update, wants_memory, wants_nothing}
-use Rattle.zl_calls.proofs.Common.{with_effect, with_rights, within, without, without_handle, world_value, ℕ, ◌<◌, ◌==◌, ◌^◌, ◌||◌, ◌∙◌, ◌∷◌, ◌≡◌, ◌⊎◌}
-use Rattle.zl_code.proofs.SoundKept.{none_raised}
-use Rattle.zl_code.proofs.Common.{Object as ObjectValue, Process as ProcessValue, narrowed_within}
+use Rattle.zl_calls.proofs.Common.{IsConsistent, IsNamed, IsRefusedBy, IsTable, IsTrue, Library, List, Map, None, Object, ObjectValue, Objects, Ok, Option}
+use Rattle.zl_calls.proofs.Common.{PlainCalls, Process, ProcessValue, Ready, Refused, ReplaceDoes, Replaces, Replies, Result, Site, Some, Status, Values, World}
+use Rattle.zl_calls.proofs.Common.{[], any, ap, arith, bits, cases_Bool, close, close_answer, coming, cond, copy_of, cpu_answered, default_rights_of, dup}
+use Rattle.zl_calls.proofs.Common.{dup_refusal, effect, entry_at, eq-eqb, eqb-true, false, first_some, get, get-put, get-update, get-without, gives_ok}
+use Rattle.zl_calls.proofs.Common.{gives_refused, granted, handle_info, handle_operands, handles_to, has_key, has_key-update, has_place, has_room, has_room_in}
+use Rattle.zl_calls.proofs.Common.{held_once_more, holding, if◌then◌else◌, info_values, inl, inr, insert_all, is_empty, is_process, is_some, is_sorted}
+use Rattle.zl_calls.proofs.Common.{is_sorted-update, length, listed, lives, looked_up, map, may_choose, more_same, narrowed, nat_cmp, nat_lt, nat_tests}
+use Rattle.zl_calls.proofs.Common.{new_handles, next_for, no_value, none_raised, not, object_value, on_process, one_value, operands_fault, option_map}
+use Rattle.zl_calls.proofs.Common.{option_or, passes, plain_refusal, process_entry, process_value, process_with, process_without, put, refl, remove_all}
+use Rattle.zl_calls.proofs.Common.{replace, replace_refusal, replied, result_err, same_Some, same_map, sorted_put, sorted_without, state_value, status_of}
+use Rattle.zl_calls.proofs.Common.{subst, sym, table_of, taken, taken_all, taken_handles, told_by, true, update, wants_memory, wants_nothing, with_effect}
+use Rattle.zl_calls.proofs.Common.{with_rights, within, without, without_handle, world_value, ℕ, ◌<◌, ◌==◌, ◌^◌, ◌||◌, ◌∙◌, ◌∷◌, ◌≡◌, ◌⊎◌}
+use Rattle.zl_code.proofs.Common.{narrowed_within}
 use Rattle.zl_rights.specs.declared.status.Status.TheVariants as status
 use Rattle.zl_code.specs.declared.history.Outcome.TheVariants as outcome
-use Rattle.zl_calls.specs.declared.process.Process.{Process}
 use Rattle.zl_calls.proofs.objects.SameButWaits.{beside_consistent, beside_world}
-use Rattle.zl_code.specs.Own.{taken_all}
 use Rattle.zl_rights.proofs.Values.{given_taken}
-use Rattle.zl_rights.specs.Values.{coming}
 use Rattle.zl_code.specs.Tests.{info_of}
 use Rattle.zl_calls.proofs.calls.Owned.{IsOwn, own_call_of, own_entered, own_plain, own_refused, own_written}
 use Rattle.zl_calls.proofs.calls.Answered.{IsWrite, asking, may_get_inserted, replied_inserted, replied_with, replies_none, same_world, table_is}
@@ -31,11 +28,9 @@ use Rattle.zl_calls.proofs.calls.TakenCalls.{closed, replied_taking, taking_done
 use Rattle.zl_calls.proofs.objects.Settled.{IsSettled, still_settles, sound_of}
 use Rattle.zl_calls.proofs.processes.Written.{refusal_keeps, entered, one_entered, same_agrees}
 use Rattle.zl_rights.proofs.MapEdits.{length-update}
-use Rattle.zl_objects.specs.declared.object.Object.{Object}
 use Rattle.zl_calls.proofs.lists.Updates.{update_twice, update_unseen}
 use Rattle.zl_calls.proofs.objects.Held.{held_value, holding_kept, holding_sound}
 use Rattle.zl_calls.proofs.objects.SameBodies.{named_updated}
-use Rattle.zl_objects.proofs.Whole.{more_same}
 
 -- ---- the answer of close
 

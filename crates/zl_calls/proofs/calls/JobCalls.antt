@@ -1,27 +1,22 @@
 -- The calls on jobs, job_create and job_set_policy, each from its table and objects to a step.
-use Rattle.zl_calls.proofs.Common.{Bool, Condition, Entry, Err, IsConsistent, IsNamed, AreSound, IsTrue, Job, JobBody, JobFault, Library, List, MANAGE_JOB, Map}
-use Rattle.zl_calls.proofs.Common.{None, Objects, Ok, Option, Replies, Result, SET_POLICY, Setting, Site, Some, Status, Values, World, [], answer_if, ap}
-use Rattle.zl_calls.proofs.Common.{body_of, body_value, conflicts, effect, false, false≢true, first_some, get, get_seen, gives_ok, gives_refused}
-use Rattle.zl_calls.proofs.Common.{handle_operands, has_child, has_child_at, has_koids, has_room, has_room_in, if◌then◌else◌, insert_all, is_above, is_in_job}
-use Rattle.zl_calls.proofs.Common.{is_job_at, is_some, job_at, job_create, job_set_policy, job_shown, job_within_here, keeper_of, kind_of, listed, looked_up}
-use Rattle.zl_calls.proofs.Common.{map, may_choose, nat_le, new_entry, new_handles, new_in, no_value, not, object_at, object_value, on_object, on_process}
-use Rattle.zl_calls.proofs.Common.{one_value, operands_fault, option_or, policy_changed, policy_in, process_entry, process_shown, process_value, process_with}
-use Rattle.zl_calls.proofs.Common.{refl, plain_refusal, remove_all, replied, result_err, runs, setting_policy, subst, sym, taken_handles, takes}
-use Rattle.zl_calls.proofs.Common.{then_some, told_by, true, wants_nothing, wants_memory, with_new, with_object, with_policy_body, with_policy_set, world_value}
-use Rattle.zl_calls.proofs.Common.{ℕ, ⊤, ◌&&◌, ◌+◌, ◌==◌, ◌^◌, ◌||◌, ◌∙◌, ◌∷◌, ◌≡◌}
+use Rattle.zl_calls.proofs.Common.{AreSound, Body, Bool, Condition, Entry, Err, IsConsistent, IsNamed, IsTrue, Job, JobBody, JobFault, Library, List}
+use Rattle.zl_calls.proofs.Common.{MANAGE_JOB, Map, None, Object, Objects, Ok, Option, Process, Replies, Result, SET_POLICY, Setting, Site, Some, Status}
+use Rattle.zl_calls.proofs.Common.{Values, World, [], answer_if, ap, body_of, body_value, conflicts, effect, false, false≢true, first_some, get, get_seen}
+use Rattle.zl_calls.proofs.Common.{gives_ok, gives_refused, handle_operands, has_child, has_child_at, has_koids, has_room, has_room_in, if◌then◌else◌}
+use Rattle.zl_calls.proofs.Common.{insert_all, is_above, is_deepest_here, is_in_job, is_job_at, is_some, job_at, job_create, job_set_policy, job_shown}
+use Rattle.zl_calls.proofs.Common.{job_within, job_within_here, keeper_of, kind_of, listed, looked_up, map, may_choose, nat_le, new_entry, new_handles, new_in}
+use Rattle.zl_calls.proofs.Common.{no_value, not, object_at, object_value, on_object, on_process, one_value, operands_fault, option_or, plain_refusal}
+use Rattle.zl_calls.proofs.Common.{policy_changed, policy_in, process_entry, process_shown, process_value, process_with, queue_held, refl, remove_all, replied}
+use Rattle.zl_calls.proofs.Common.{result_err, runs, setting_policy, subst, sym, taken_handles, takes, then_some, told_by, true, wants_memory, wants_nothing}
+use Rattle.zl_calls.proofs.Common.{with_new, with_object, with_policy_body, with_policy_set, world_value, ℕ, ⊤, ◌&&◌, ◌+◌, ◌==◌, ◌^◌, ◌||◌, ◌∙◌, ◌∷◌, ◌≡◌}
 use Rattle.zl_code.proofs.Common.{Action, Body as BodyValue, body_with_policy, policy_set, setting_of}
 use Rattle.zl_rights.specs.declared.kind.Kind.TheVariants as kind
 use Rattle.zl_rights.specs.declared.status.Status.TheVariants as status
 use Rattle.zl_rights.specs.Policies.{is_absolute}
-use Rattle.zl_jobs.specs.Jobs.{is_deepest_here}
 use Rattle.zl_jobs.specs.declared.job.JobFault.TheVariants as fault
 use Rattle.zl_code.specs.declared.history.Outcome.TheVariants as outcome
-use Rattle.zl_code.specs.Jobs.{is_conflict, is_dead, is_deepest, job_within}
-use Rattle.zl_objects.specs.declared.object.Body.{Body}
+use Rattle.zl_code.specs.Jobs.{is_conflict, is_dead, is_deepest}
 use Rattle.zl_objects.specs.declared.object.Body.TheVariants as body
-use Rattle.zl_objects.specs.declared.object.Object.{Object}
-use Rattle.zl_objects.specs.Objects.{queue_held}
-use Rattle.zl_calls.specs.declared.process.Process.{Process}
 use Rattle.zl_calls.specs.calls.Job.{CreatesJob, JobCreateDoes, JobSetPolicyDoes, SetsPolicy, fault_status, job_refusal, job_refusal_of}
 use Rattle.zl_calls.specs.calls.Job.{policy_refusal, policy_refusal_of}
 use Rattle.zl_calls.proofs.objects.Active.{states_shown}

@@ -1,17 +1,13 @@
 -- A call that makes one object: how it is refused, and what is left of the world and of the invariant. Each call that makes one goes by it.
-use Rattle.zl_calls.proofs.Common.{Agrees, Bool, CallBy, Entry, Inserts, IsConsistent, IsNamed, IsTrue, Library, List, MakeDoes, MakesOne, Map, None, Objects}
-use Rattle.zl_calls.proofs.Common.{Replies, Site, Some, Values, World, [], answer_if, ap, arith, body_value, false, first_some, get, has_room_in, is_in_job}
-use Rattle.zl_calls.proofs.Common.{is_process, kind_in, length, map, may_get, may_want, nat_le, nat_tests, new_entry, new_object, none-some, not, on_process}
-use Rattle.zl_calls.proofs.Common.{one_value, plain_refusal, process_entry, process_value, process_with, refl, replied, room_refusal, sym, then_some}
-use Rattle.zl_calls.proofs.Common.{told_by, true, wants_memory, with_new, with_object, world_value, ℕ, ◌&&◌, ◌+◌, ◌<◌, ◌^◌, ◌∙◌, ◌∷◌, ◌≡◌}
-use Rattle.zl_code.proofs.Common.{Object as ObjectValue, State}
+use Rattle.zl_calls.proofs.Common.{Agrees, Body, Bool, CallBy, Entry, Inserts, IsConsistent, IsNamed, IsTrue, Library, List, MakeDoes, MakesOne, Map, None}
+use Rattle.zl_calls.proofs.Common.{Object, ObjectValue, Objects, Process, Replies, Site, Some, StateValue, Values, World, [], answer_if, ap, arith, body_value}
+use Rattle.zl_calls.proofs.Common.{false, first_some, get, has_room_in, is_in_job, is_process, kind_in, length, map, may_get, may_want, nat_le, nat_tests}
+use Rattle.zl_calls.proofs.Common.{new_entry, new_object, none-some, not, on_process, one_value, plain_refusal, process_entry, process_value, process_with}
+use Rattle.zl_calls.proofs.Common.{queue_held, refl, replied, room_refusal, sym, then_some, told_by, true, wants_memory, with_new, with_object, world_value, ℕ}
+use Rattle.zl_calls.proofs.Common.{◌&&◌, ◌+◌, ◌<◌, ◌^◌, ◌∙◌, ◌∷◌, ◌≡◌}
 use Rattle.zl_rights.specs.declared.status.Status.TheVariants as status
 use Rattle.zl_code.specs.declared.history.Outcome.TheVariants as outcome
-use Rattle.zl_objects.specs.declared.object.Body.{Body}
 use Rattle.zl_objects.specs.declared.object.Body.TheVariants as body
-use Rattle.zl_objects.specs.declared.object.Object.{Object}
-use Rattle.zl_objects.specs.Objects.{queue_held}
-use Rattle.zl_calls.specs.declared.process.Process.{Process}
 use Rattle.zl_calls.proofs.calls.Owned.{IsMaker, own_plain}
 use Rattle.zl_calls.proofs.calls.Answered.{IsWrite, may_get_inserted, replied_inserted}
 use Rattle.zl_calls.proofs.calls.DoneCalls.{IsCalled, IsDoneBy, answered_done}
@@ -84,7 +80,7 @@ module _ {before after : List Process} {r : Objects} {p p2 : Process} (lib : Lib
       → CallBy lib w p.pid s (Values (made ∷ [])) None (outcome.Answered status.Ok) (world_value after r2)
 
   -- what the object is agrees with there being no such process, no message is in it, and it stands in a job that is there
-  module _ (quiet : ((test : State → Bool) → is_process w test n ≡ false) → Agrees w n b) (empty : queue_held b ≡ [])
+  module _ (quiet : ((test : StateValue → Bool) → is_process w test n ≡ false) → Agrees w n b) (empty : queue_held b ≡ [])
       (in_job : IsTrue (is_in_job grown.objects b)) where
     module _ (made : ℕ) (makes : MakesOne b p.table r made p2.table r2) (replies : Replies s status.Ok (made ∷ []) p p2) where
       -- ---- the relation of calls

@@ -1,18 +1,14 @@
 -- Which values the new handles of a call get, and which come then: those of the lab's own call.
-use Rattle.zl_calls.proofs.Common.{Bool, Entry, Handles, InsertsEach, List, Objects, Request, Site, Some, World, [], ap, eq-eqb, false, get, has_key}
-use Rattle.zl_calls.proofs.Common.{if◌then◌else◌, is_process, length, lives, map, process_entry, process_value, refl, state_value, subst, sym, taken_handles}
-use Rattle.zl_calls.proofs.Common.{true, without, without_handles, world_value, ℕ, ⊤, ◌∙◌, ◌∷◌, ◌≡◌, AtCall, CallName, PlainCalls, Library, Outcome, Settles}
-use Rattle.zl_calls.proofs.Common.{next_for, same_Some}
+use Rattle.zl_calls.proofs.Common.{AtCall, Bool, CallName, Choice, Entry, FreeBy, Handles, InsertsEach, Library, List, Objects, Outcome, OwnWorld, PlainCalls}
+use Rattle.zl_calls.proofs.Common.{Process, ProcessValue, Refused, Request, Settles, Site, Some, Values, Wants, World, [], all_given, ap, coming, entered_free}
+use Rattle.zl_calls.proofs.Common.{eq-eqb, false, free_at, free_entry, get, given_back, has_key, if◌then◌else◌, is_process, left_free, length, lives, map}
+use Rattle.zl_calls.proofs.Common.{new_handles, next_for, own_values, process_entry, process_value, refl, same_Some, state_value, subst, sym, taken_all}
+use Rattle.zl_calls.proofs.Common.{taken_handles, true, without, without_handles, world_value, ℕ, ⊤, ◌∙◌, ◌∷◌, ◌≡◌}
 use Rattle.zl_calls.proofs.processes.Departed.{settled_world}
-use Rattle.zl_code.proofs.Common.{Choice, Process as ProcessValue, Refused, Values, Wants}
-use Rattle.zl_code.specs.CallTable.{choosing, new_handles, receiver_of}
-use Rattle.zl_code.specs.Own.{OwnWorld, all_given, entered_free, free_at, given_by, left_free, own_values, taken_all}
-use Rattle.zl_rights.specs.Values.{coming, given_back}
-use Rattle.zl_calls.specs.World.{free_entry}
-use Rattle.zl_calls.specs.declared.process.Process.{Process}
+use Rattle.zl_code.specs.CallTable.{choosing, receiver_of}
+use Rattle.zl_code.specs.Own.{given_by}
 use Rattle.zl_calls.proofs.calls.Answered.{IsWrite, with_table}
 use Rattle.zl_calls.proofs.processes.Freed.{free_written}
-use Rattle.zl_calls.specs.Own.{FreeBy}
 
 -- the world of these processes and objects with the values of each process
 abbrev pub own_in : List Process → Objects → OwnWorld

@@ -1,19 +1,15 @@
 -- Calls that make both ends of a pair, chan_create and eventpair_create: how they are refused, and what is left of the world and of the invariant.
-use Rattle.zl_calls.proofs.Common.{Bool, CallBy, ChanCreateDoes, Entry, Handles, Inserts, IsConsistent, IsNamed, IsTable, IsTrue, Library, List, MakePairDoes}
-use Rattle.zl_calls.proofs.Common.{MakesPair, Map, None, Objects, Pair, Replies, Site, Some, Values, World, [], and_parts, answer_if, ap, arith, body_value}
-use Rattle.zl_calls.proofs.Common.{chan_create, cond, count_by, effect, eventpair_create, false, first_some, get, gives_ok, gives_refused, handle_operands}
-use Rattle.zl_calls.proofs.Common.{handles_to, has_koids, has_room, insert_all, length, listed, map, may_choose, may_get_all, may_want, nat_le, nat_tests}
-use Rattle.zl_calls.proofs.Common.{ne_eqb, new_entry, new_handles, new_object, none-some, not, object_value, on_process, operands_fault, pair_refusal}
-use Rattle.zl_calls.proofs.Common.{plain_refusal, process_entry, process_value, process_with, put, refl, remove_all, replied, runs, subst, sum_by-cons}
-use Rattle.zl_calls.proofs.Common.{sym, taken_handles, then_some, told_by, true, two_values, wants_memory, with_new, with_object, world_value, ℕ, ◌&&◌}
-use Rattle.zl_calls.proofs.Common.{◌+◌, ◌==◌, ◌^◌, ◌∙◌, ◌∷◌, ◌≡◌, ◌≤◌}
-use Rattle.zl_code.proofs.Common.{Object}
+use Rattle.zl_calls.proofs.Common.{Body, Bool, CallBy, ChanCreateDoes, Entry, Handles, Inserts, IsConsistent, IsNamed, IsTable, IsTrue, Library, List}
+use Rattle.zl_calls.proofs.Common.{MakePairDoes, MakesPair, Map, None, ObjectValue, Objects, Pair, Process, Replies, Site, Some, Values, World, [], and_parts}
+use Rattle.zl_calls.proofs.Common.{answer_if, ap, arith, body_value, chan_create, cond, count_by, effect, end_to, eventpair_create, false, first_some, get}
+use Rattle.zl_calls.proofs.Common.{gives_ok, gives_refused, handle_operands, handles_to, has_koids, has_room, insert_all, kind_of_pair, length, listed, map}
+use Rattle.zl_calls.proofs.Common.{may_choose, may_get_all, may_want, nat_le, nat_tests, ne_eqb, new_entry, new_handles, new_object, none-some, not}
+use Rattle.zl_calls.proofs.Common.{object_value, on_process, operands_fault, pair_refusal, plain_refusal, process_entry, process_value, process_with, put, refl}
+use Rattle.zl_calls.proofs.Common.{remove_all, replied, runs, subst, sum_by-cons, sym, taken_handles, then_some, told_by, true, two_values, wants_memory}
+use Rattle.zl_calls.proofs.Common.{with_new, with_object, world_value, ℕ, ◌&&◌, ◌+◌, ◌==◌, ◌^◌, ◌∙◌, ◌∷◌, ◌≡◌, ◌≤◌}
 use Rattle.zl_rights.specs.declared.status.Status.TheVariants as status
 use Rattle.zl_code.specs.declared.history.Outcome.TheVariants as outcome
-use Rattle.zl_objects.specs.declared.object.Body.{Body}
 use Rattle.zl_objects.specs.declared.object.Pair.TheVariants as pair
-use Rattle.zl_objects.specs.Objects.{end_to, kind_of_pair}
-use Rattle.zl_calls.specs.declared.process.Process.{Process}
 use Rattle.zl_calls.specs.calls.Event.{EventpairCreateDoes}
 use Rattle.zl_calls.proofs.calls.Owned.{IsMaker, own_plain}
 use Rattle.zl_calls.proofs.calls.Answered.{IsWrite, asking, may_get_both, replied_inserted_two, table_is}
@@ -104,8 +100,8 @@ module _ {before after : List Process} {r : Objects} {p p2 : Process} (lib : Lib
 
       rest : (record with_ends { processes = map process_entry after }) ≡ world_value after r2
       unfolding with_object
-      rest = rw makes.objects (ap (λ (os : Map Object). record w { processes = map process_entry after; objects = os; next_koid = n + 1 + 1 })
-          (ap (λ (os : Map Object). put os (n + 1) (object_value (new_object second_end 1))) (grown_seen r first_end 1 consistent.given_objects)
+      rest = rw makes.objects (ap (λ (os : Map ObjectValue). record w { processes = map process_entry after; objects = os; next_koid = n + 1 + 1 })
+          (ap (λ (os : Map ObjectValue). put os (n + 1) (object_value (new_object second_end 1))) (grown_seen r first_end 1 consistent.given_objects)
           ∙ grown_seen with_first second_end 1 growing.sound.given_objects))
 
       chosen : IsTrue (may_get_all (process_value p) (first ∷ second ∷ []) (two_values made))

@@ -1,12 +1,11 @@
 -- Any call: it blocks, or what it does is a step up to where processes wake; and it leaves its process its pid.
 use Rattle.zl_calls.proofs.Common.{Acted, Action, ActsHere, AtCall, Awaited, Blocks, CallName, Err, Handles, IsConsistent, KeepSleepers, Library, List, None}
-use Rattle.zl_calls.proofs.Common.{Objects, Ok, Option, Outcome, PortCancelDoes, Ready, Request, Result, Site, Some, Status, WaitAsyncDoes, action_asked}
-use Rattle.zl_calls.proofs.Common.{answers, ap, awaited_by, calls_at, chan_create, chan_read_etc, chan_read_slots, chan_write, chan_write_slots, close, dup}
-use Rattle.zl_calls.proofs.Common.{event_create, eventpair_create, exits, false, false≢true, handle_info, inl, inr, is_blocked, is_blocking, job_create}
-use Rattle.zl_calls.proofs.Common.{job_set_policy, looks_at_waits, next_for, next_looks, plain_refusal, port_cancel, port_create, port_poll, port_queue}
-use Rattle.zl_calls.proofs.Common.{port_wait, process_exit, process_value, reaches, refl, replace, signal, signal_peer, state_value, subst, sym, task_kill}
-use Rattle.zl_calls.proofs.Common.{true, true≢false, wait_async, wait_one, wait_poll, waits, world_value, ⊤, ◌∙◌, ◌≡◌, ◌⊎◌}
-use Rattle.zl_calls.specs.declared.process.Process.{Process}
+use Rattle.zl_calls.proofs.Common.{Objects, Ok, Option, Outcome, PortCancelDoes, Process, Ready, Request, Result, Site, Some, Status, WaitAsyncDoes}
+use Rattle.zl_calls.proofs.Common.{action_asked, answers, ap, awaited_by, calls_at, chan_create, chan_read_etc, chan_read_slots, chan_write, chan_write_slots}
+use Rattle.zl_calls.proofs.Common.{close, dup, event_create, eventpair_create, exits, false, false≢true, handle_info, inl, inr, is_blocked, is_blocking}
+use Rattle.zl_calls.proofs.Common.{job_create, job_set_policy, looks_at_waits, next_for, next_looks, plain_refusal, port_cancel, port_create, port_poll}
+use Rattle.zl_calls.proofs.Common.{port_queue, port_wait, process_exit, process_value, reaches, refl, replace, signal, signal_peer, state_value, subst, sym}
+use Rattle.zl_calls.proofs.Common.{task_kill, true, true≢false, wait_async, wait_one, wait_poll, waits, world_value, ⊤, ◌∙◌, ◌≡◌, ◌⊎◌}
 use Rattle.zl_calls.proofs.calls.Answered.{IsWrite, asking}
 use Rattle.zl_calls.proofs.calls.DoneCalls.{IsCalledAmong, IsDone}
 use Rattle.zl_calls.proofs.calls.PairCalls.{chan_create_done, eventpair_done}

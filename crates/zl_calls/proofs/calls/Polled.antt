@@ -1,11 +1,10 @@
 -- What is taken from a port: its first packet, or nothing, and then nothing has changed.
-use Rattle.zl_calls.proofs.Common.{Does, Entry, Err, Handles, IsRefusedBy, List, Map, None, Objects, Ok, Packet, READ, Some, TakesPacket, [], ap, at_port}
-use Rattle.zl_calls.proofs.Common.{cases_Bool, changed_port, changing_port, drop, eqb-true, get, inl, inr, is_empty, none-some, packets_found, packets_of}
-use Rattle.zl_calls.proofs.Common.{poll_refusal, port_at, refl, slice_get, sym, then_some, update, wants_nothing, without_front, ℕ, ◌==◌, ◌∙◌, ◌∷◌, ◌≡◌}
+use Rattle.zl_calls.proofs.Common.{Body, Does, Entry, Err, Handles, IsRefusedBy, List, Map, None, Object, Objects, Ok, Packet, READ, Some, TakesPacket, [], ap}
+use Rattle.zl_calls.proofs.Common.{at_port, cases_Bool, changed_port, changing_port, drop, eqb-true, get, inl, inr, is_empty, none-some, packets_found}
+use Rattle.zl_calls.proofs.Common.{packets_of, poll_refusal, port_at, refl, slice_get, sym, then_some, update, wants_nothing, without_front, ℕ, ◌==◌, ◌∙◌, ◌∷◌}
+use Rattle.zl_calls.proofs.Common.{◌≡◌}
 use Rattle.zl_rights.specs.declared.status.Status.TheVariants as status
-use Rattle.zl_objects.specs.declared.object.Body.{Body}
 use Rattle.zl_objects.specs.declared.object.Body.TheVariants as body
-use Rattle.zl_objects.specs.declared.object.Object.{Object}
 
 -- where no packet is, none leaves
 none_left_behind : (b : Body) → slice_get (packets_of b) 0 ≡ None → changed_port without_front b ≡ b

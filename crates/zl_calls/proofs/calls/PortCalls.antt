@@ -1,17 +1,15 @@
 -- The calls on ports, port_create, port_queue, port_poll and port_wait, each from its table and objects to a step.
-use Rattle.zl_calls.proofs.Common.{Entry, IsConsistent, Library, List, None, Objects, Ok, Packet, PacketAt, Port, READ, Replies, Site, Some, TakesPacket}
-use Rattle.zl_calls.proofs.Common.{Values, WRITE, World, [], ap, awaited_by, body_of, drop, effect, first_values, get, gives_ok, gives_refused, handle_operands}
-use Rattle.zl_calls.proofs.Common.{has_koids, has_room, insert_all, is_empty, is_full, listed, may_choose, new_handles, new_port, no_value, none-some}
-use Rattle.zl_calls.proofs.Common.{object_at, on_object, one_value, operands_fault, packet_awaited, packet_taken, packet_values, packets_at, packets_found}
-use Rattle.zl_calls.proofs.Common.{plain_refusal, poll_refusal, port_at, port_create, port_poll, port_queue, port_wait, refl, remove_all, replied, result_err}
-use Rattle.zl_calls.proofs.Common.{runs, same_Some, slice_get, sym, taken_handles, told_by, wants_memory, wants_nothing, with_packet, without_front}
-use Rattle.zl_calls.proofs.Common.{world_value, ℕ, ⊤, ◌++◌, ◌∙◌, ◌∷◌, ◌≡◌}
+use Rattle.zl_calls.proofs.Common.{Entry, IsConsistent, Library, List, None, Objects, Ok, Packet, PacketAt, Port, Process, READ, Replies, Site, Some}
+use Rattle.zl_calls.proofs.Common.{TakesPacket, Values, WRITE, World, [], ap, awaited_by, body_of, drop, effect, first_values, get, gives_ok, gives_refused}
+use Rattle.zl_calls.proofs.Common.{handle_operands, has_koids, has_room, insert_all, is_empty, is_full, listed, may_choose, new_handles, new_port, no_value}
+use Rattle.zl_calls.proofs.Common.{none-some, object_at, on_object, one_value, operands_fault, packet_awaited, packet_taken, packet_values, packets_at}
+use Rattle.zl_calls.proofs.Common.{packets_found, packets_in, plain_refusal, poll_refusal, port_at, port_create, port_poll, port_queue, port_wait, refl}
+use Rattle.zl_calls.proofs.Common.{remove_all, replied, result_err, runs, same_Some, slice_get, sym, taken_handles, told_by, wants_memory, wants_nothing}
+use Rattle.zl_calls.proofs.Common.{with_packet, without_front, world_value, ℕ, ⊤, ◌++◌, ◌∙◌, ◌∷◌, ◌≡◌}
 use Rattle.zl_rights.specs.declared.kind.Kind.TheVariants as kind
 use Rattle.zl_rights.specs.declared.status.Status.TheVariants as status
 use Rattle.zl_port.specs.Packets.{user_packet}
 use Rattle.zl_code.specs.declared.history.Outcome.TheVariants as outcome
-use Rattle.zl_code.specs.Waiting.{packets_in}
-use Rattle.zl_calls.specs.declared.process.Process.{Process}
 use Rattle.zl_calls.specs.calls.Port.{PortCreateDoes, PortPollDoes, PortQueueDoes, PortWaitDoes, QueuesPacket, queue_refusal}
 use Rattle.zl_calls.proofs.calls.Owned.{own_plain}
 use Rattle.zl_calls.proofs.calls.Answered.{IsWrite, asking, table_is}

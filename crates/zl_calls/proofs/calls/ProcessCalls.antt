@@ -1,29 +1,22 @@
 -- The calls on processes: the end of a process, by process_exit or because it is stuck, to a step up to where processes wake.
-use Rattle.zl_calls.proofs.Common.{AtCall, CallName, Ended, Ends, Entry, IsActed, IsConsistent, IsNamed, IsStuck, IsTable, Library, List, Map, Objects}
-use Rattle.zl_calls.proofs.Common.{PlainCalls, Ready, Releases, STUCK, Settles, Site, Some, Values, World, [], ap, arith, count_by, effect, ended, false≢true}
-use Rattle.zl_calls.proofs.Common.{get, handle_operands, insert_all, listed, may_choose, new_handles, next_for, none-some, on_process, operands_fault}
-use Rattle.zl_calls.proofs.Common.{plain_refusal, process_exit, process_value, refl, releases_then, remove_all, signed_word, state_value, stopping, subst}
-use Rattle.zl_calls.proofs.Common.{taken_handles, world_value, ℕ, ℤ, ◌+◌, ◌==◌, ◌∙◌, ◌≡◌}
-use Rattle.zl_code.proofs.Common.{Process as ProcessValue}
+use Rattle.zl_calls.proofs.Common.{AtCall, CallName, Ended, Ends, Entry, Free, FreeBy, IsActed, IsConsistent, IsNamed, IsStuck, IsTable, Library, List, Map}
+use Rattle.zl_calls.proofs.Common.{Objects, PlainCalls, Process, ProcessValue, Ready, Releases, STUCK, Settles, Site, Some, State, Values, World, [], ap, arith}
+use Rattle.zl_calls.proofs.Common.{coming, count_by, effect, ended, entered_free, false, false≢true, free_at, free_entry, get, handle_operands, insert_all}
+use Rattle.zl_calls.proofs.Common.{is_process, listed, lives, map, may_choose, new_handles, next_for, none-some, on_process, operands_fault, plain_refusal}
+use Rattle.zl_calls.proofs.Common.{process_exit, process_value, refl, releases_then, remove_all, signed_word, state_value, stopping, subst, sym, taken_handles}
+use Rattle.zl_calls.proofs.Common.{true, world_value, ℕ, ℤ, ◌+◌, ◌==◌, ◌∙◌, ◌≡◌}
 use Rattle.zl_code.specs.declared.history.Outcome.TheVariants as outcome
 use Rattle.zl_code.specs.declared.history.TraceItem.TheVariants as item
 use Rattle.zl_calls.specs.declared.process.State.TheVariants as state
 use Rattle.zl_code.specs.Effects.{process_ended as process_over}
-use Rattle.zl_calls.specs.declared.process.Process.{Process}
 use Rattle.zl_calls.proofs.calls.Answered.{IsWrite, asking}
 use Rattle.zl_calls.proofs.calls.DoneCalls.{IsDone}
 use Rattle.zl_calls.proofs.calls.Owned.{IsOwn, own_call_of, own_in}
 use Rattle.zl_calls.proofs.processes.Freed.{free_written}
-use Rattle.zl_calls.specs.World.{free_entry}
-use Rattle.zl_calls.proofs.Common.{false, false≢true, is_process, lives, map, sym, true, ◌==◌}
-use Rattle.zl_calls.specs.declared.process.State.{State}
-use Rattle.zl_code.specs.Own.{entered_free, free_at}
-use Rattle.zl_rights.specs.Values.{Free, coming}
 use Rattle.zl_calls.proofs.step.FromConsistent.{call_settles}
 use Rattle.zl_calls.proofs.processes.Departed.{settled_world}
 use Rattle.zl_calls.proofs.objects.Settled.{AreGone, IsSettled, drained, settled}
 use Rattle.zl_calls.proofs.processes.Stopped.{IsOver, named_stopped, over, seen_stopped, sound_stopped}
-use Rattle.zl_calls.specs.Own.{FreeBy}
 
 module _ {before after : List Process} {r : Objects} {p p2 : Process} (lib : Library) (r2 : Objects) (consistent : IsConsistent before r)
     (write : IsWrite before after p p2) (code : ℤ)

@@ -1,15 +1,13 @@
 -- The calls chan_read_etc and chan_read_slots, from their table and objects to a step.
-use Rattle.zl_calls.proofs.Common.{ChanReadDoes, Err, IsConsistent, IsTold, Library, List, None, Objects, Ok, Outcome, ReadFault, Received, Result, Site, Some}
-use Rattle.zl_calls.proofs.Common.{Status, World, [], chan_read_etc, chan_read_slots, effect, gives_ok, gives_refused, handle_operands, if◌then◌else◌, listed}
-use Rattle.zl_calls.proofs.Common.{may_choose, new_handles, operands_fault, refl, remove_all, subst, sym, taken_handles, told_of, told_read, told_slots}
-use Rattle.zl_calls.proofs.Common.{world_value, ℕ, ◌≡◌}
-use Rattle.zl_calls.specs.declared.process.Process.{Process}
+use Rattle.zl_calls.proofs.Common.{ChanReadDoes, Err, IsConsistent, IsTold, Library, List, None, Objects, Ok, Outcome, Process, ReadFault, Received, Result}
+use Rattle.zl_calls.proofs.Common.{Site, Some, Status, World, [], chan_read_etc, chan_read_slots, effect, gives_ok, gives_refused, handle_operands}
+use Rattle.zl_calls.proofs.Common.{if◌then◌else◌, listed, may_choose, new_handles, operands_fault, queue_at, refl, remove_all, sizes_of, subst, sym}
+use Rattle.zl_calls.proofs.Common.{taken_handles, told_of, told_read, told_slots, world_value, ℕ, ◌≡◌}
 use Rattle.zl_calls.proofs.calls.Answered.{IsWrite, asking}
 use Rattle.zl_calls.proofs.calls.DoneCalls.{IsCalled, IsDoneBy, called_done}
 use Rattle.zl_calls.proofs.calls.Readers.{IsReader, tells_sizes, was_not_read, was_read}
 use Rattle.zl_rights.specs.declared.status.Status.TheVariants as status
 use Rattle.zl_code.specs.declared.history.Outcome.TheVariants as outcome
-use Rattle.zl_code.specs.Tests.{queue_at, sizes_of}
 
 -- ---- what the definitions say of both
 

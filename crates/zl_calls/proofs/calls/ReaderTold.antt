@@ -1,18 +1,17 @@
 -- What a reader is told, in its registers and its memory.
-use Rattle.zl_calls.proofs.Common.{Acted, Bool, CallInstr, ChanReadDoes, Cpu, Entry, Handles, IsSome, IsTrue, List, None, Objects, Ok, Option, Outcome}
-use Rattle.zl_calls.proofs.Common.{Received, Site, Some, [], answered, ap, arith, chan_read_etc, chan_read_slots, drop, false, false≢true, if◌then◌else◌}
-use Rattle.zl_calls.proofs.Common.{length, number_at, read_into, refl, reg, register_set, site, site_of, sizes_into, slice_get, slice_index, slice_set}
-use Rattle.zl_calls.proofs.Common.{slots_filled, status_magnitude, subst, suc, sym, take, take-append-drop, then_some, told_of, triple_of, triples_from, true}
-use Rattle.zl_calls.proofs.Common.{with_kept, with_stored, written, zero, ℕ, ◌*◌, ◌++◌, ◌+◌, ◌-◌, ◌<◌, ◌==◌, ◌∙◌, ◌∷◌, ◌≡◌, ◌≤◌}
+use Rattle.zl_calls.proofs.Common.{Acted, Bool, CallInstr, ChanReadDoes, Cpu, Entry, Handles, IsSome, IsTrue, List, None, Objects, Ok, Option, Outcome, Process}
+use Rattle.zl_calls.proofs.Common.{Received, Site, Some, [], answered, ap, arith, array_in, chan_read_etc, chan_read_slots, drop, false, false≢true}
+use Rattle.zl_calls.proofs.Common.{if◌then◌else◌, length, number_at, read_into, refl, reg, register_set, room_in, site, site_of, sizes_into, slice_get}
+use Rattle.zl_calls.proofs.Common.{slice_index, slice_set, slots_filled, status_magnitude, subst, suc, sym, take, take-append-drop, then_some, told_of}
+use Rattle.zl_calls.proofs.Common.{triple_of, triples_from, true, with_kept, with_stored, written, zero, ℕ, ◌*◌, ◌++◌, ◌+◌, ◌-◌, ◌<◌, ◌==◌, ◌∙◌, ◌∷◌, ◌≡◌, ◌≤◌}
 use Rattle.std.proofs.Math.Nat.{min-le_left}
 use Rattle.zl_rights.proofs.Common.{le-leb}
-use Rattle.zl_code.specs.Asked.{array_in, has_places, room_in, zeros_in_front}
+use Rattle.zl_code.specs.Asked.{has_places, zeros_in_front}
 use Rattle.zl_code.specs.Local.{overwritten}
 use Rattle.zl_rights.specs.declared.status.Status.TheVariants as status
 use Rattle.zl_code.specs.declared.history.Outcome.TheVariants as outcome
 use Rattle.zl_code.specs.declared.history.CallName.TheVariants as name
 use Rattle.std.specs.Prelude.{min}
-use Rattle.zl_calls.specs.declared.process.Process.{Process}
 use Rattle.zl_calls.proofs.calls.Readers.{handles_fit}
 
 -- ---- triples

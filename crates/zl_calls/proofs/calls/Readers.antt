@@ -1,32 +1,27 @@
 -- Any call that reads a message, from its table and objects to the relation of calls.
-use Rattle.zl_calls.proofs.Common.{All, All-head, All-nil, All-tail, AreNamed, AreSound, Bool, Entry, Err, IsConsistent, IsFaultBy, IsNamed, IsTold, IsTrue}
-use Rattle.zl_calls.proofs.Common.{Library, List, Map, Message, None, Objects, Ok, Option, READ, ReadFault, ReadsMessage, Received, Refused, Result, Site, Some}
-use Rattle.zl_calls.proofs.Common.{Status, Told, Values, Wants, World, [], and_parts, answer_if, ap, arith, bits, body_after_read, body_in, body_of, body_value}
-use Rattle.zl_calls.proofs.Common.{count_by, cpu_answered, drop, false, false≢true, first_handles, first_some, front_at, front_by, front_in, get, get_seen}
-use Rattle.zl_calls.proofs.Common.{gets_all, gives_ok, gives_refused, granted, handle_operands, handles_to, has_room, if◌then◌else◌, insert_all, is_empty}
-use Rattle.zl_calls.proofs.Common.{is_process, is_some, keeping, length, listed, lives, looked_up, map, may_choose, may_want, message_read, nat_le, nat_tests}
-use Rattle.zl_calls.proofs.Common.{none-some, not, object_at, object_entry, object_value, ok_outcome, on_object, on_process, operands_fault, option_map}
-use Rattle.zl_calls.proofs.Common.{option_or, peer_here, plain_refusal, process_entry, process_value, process_with, process_with_all, queue_found, queued_to}
-use Rattle.zl_calls.proofs.Common.{read_refused, refl, replied, result_err, slice_get, storing, subst, sum_by, sum_by-cons, sum_fewer, sym, taken, takes}
-use Rattle.zl_calls.proofs.Common.{told_unread, true, update, wants_memory, with_effect, with_kept, with_stored, within, without_handles, world_value, ℕ, ◌&&◌}
-use Rattle.zl_calls.proofs.Common.{◌++◌, ◌+◌, ◌==◌, ◌∙◌, ◌∷◌, ◌≡◌, ◌≤◌}
-use Rattle.zl_code.proofs.Common.{Object as ObjectValue, Process as ProcessValue}
+use Rattle.zl_calls.proofs.Common.{All, All-head, All-nil, All-tail, AreNamed, AreSound, Body, Bool, Entry, Err, FreeBy, IsConsistent, IsFaultBy, IsNamed}
+use Rattle.zl_calls.proofs.Common.{IsTold, IsTrue, Library, List, Map, Message, None, Object, ObjectValue, Objects, Ok, Option, Process, ProcessValue, READ}
+use Rattle.zl_calls.proofs.Common.{ReadFault, ReadsMessage, Received, Refused, Result, Site, Some, Status, Told, Values, Wants, World, [], and_parts, answer_if}
+use Rattle.zl_calls.proofs.Common.{ap, arith, bits, body_after_read, body_in, body_of, body_value, count_by, cpu_answered, drop, false, false≢true}
+use Rattle.zl_calls.proofs.Common.{first_handles, first_some, front_at, front_by, front_in, get, get_seen, gets_all, gives_ok, gives_refused, granted}
+use Rattle.zl_calls.proofs.Common.{handle_operands, handles_to, has_room, if◌then◌else◌, insert_all, is_empty, is_process, is_some, keeping, left_free, length}
+use Rattle.zl_calls.proofs.Common.{listed, lives, looked_up, map, may_choose, may_want, message_read, nat_le, nat_tests, none-some, not, object_at}
+use Rattle.zl_calls.proofs.Common.{object_entry, object_value, ok_outcome, on_object, on_process, operands_fault, option_map, option_or, peer_here}
+use Rattle.zl_calls.proofs.Common.{plain_refusal, process_entry, process_value, process_with, process_with_all, queue_at, queue_found, queue_held, queued_to}
+use Rattle.zl_calls.proofs.Common.{read_refused, refl, replied, result_err, sizes_of, slice_get, storing, subst, sum_by, sum_by-cons, sum_fewer, sym, taken}
+use Rattle.zl_calls.proofs.Common.{takes, told_unread, true, update, wants_memory, with_effect, with_kept, with_stored, within, without_handles, world_value, ℕ}
+use Rattle.zl_calls.proofs.Common.{◌&&◌, ◌++◌, ◌+◌, ◌==◌, ◌∙◌, ◌∷◌, ◌≡◌, ◌≤◌}
 use Rattle.zl_rights.specs.declared.kind.Kind.TheVariants as kind
 use Rattle.zl_rights.specs.declared.status.Status.TheVariants as status
 use Rattle.zl_code.specs.declared.history.Outcome.TheVariants as outcome
-use Rattle.zl_code.specs.Tests.{first_bytes, has_place_for, queue_at, queue_in, sizes_of}
+use Rattle.zl_code.specs.Tests.{first_bytes, has_place_for, queue_in}
 use Rattle.zl_rights.proofs.Common.{leb-true}
 use Rattle.zl_table.specs.Table.{Handles}
 use Rattle.zl_channel.specs.Queue.{front_handles}
-use Rattle.zl_objects.specs.declared.object.Body.{Body}
 use Rattle.zl_objects.specs.declared.object.Body.TheVariants as body
-use Rattle.zl_objects.specs.declared.object.Object.{Object}
-use Rattle.zl_objects.specs.Objects.{queue_held, received, received_body, receiving}
-use Rattle.zl_calls.specs.declared.process.Process.{Process}
+use Rattle.zl_objects.specs.Objects.{received, received_body, receiving}
 use Rattle.zl_calls.specs.declared.calls.channel.reading.ReadFault.TheVariants as fault
 use Rattle.zl_calls.proofs.calls.Owned.{IsMaker, own_in, own_plain, own_refused}
-use Rattle.zl_code.specs.Own.{left_free}
-use Rattle.zl_calls.specs.Own.{FreeBy}
 use Rattle.zl_calls.proofs.calls.Answered.{IsWrite, replied_with, same_world, table_is}
 use Rattle.zl_calls.proofs.objects.Counted.{queue_seen}
 use Rattle.zl_calls.proofs.objects.Counting.{counts_written, queues, naming, numbered, numbered_naming}

@@ -1,15 +1,12 @@
 -- The answers other than OK, where no policy has a say: they follow from the caller's table and from counts.
-use Rattle.zl_calls.proofs.Common.{Bool, Entry, Err, IsRefusedBy, IsTrue, Kind, Library, List, Map, None, Ok, Option, Outcome, PlainCalls, Refused, Request}
-use Rattle.zl_calls.proofs.Common.{Result, Site, Some, Status, Wants, World, [], answer_if, ap, bits, false, false≢true, first_some, get, gives_refused}
-use Rattle.zl_calls.proofs.Common.{granted, handle_operands, if◌then◌else◌, listed, looked_up, may_want, not, operands_fault, option_or, plain_refusal, refl}
-use Rattle.zl_calls.proofs.Common.{replied, result_err, subst, sym, table_of, taken, takes, then_some, true, wants_nothing, within, ℕ, ◌∙◌, ◌∷◌, ◌≡◌}
+use Rattle.zl_calls.proofs.Common.{Bool, Entry, Err, FreeBy, IsRefusedBy, IsTrue, Kind, Library, List, Map, None, Objects, Ok, Option, Outcome, PlainCalls}
+use Rattle.zl_calls.proofs.Common.{Process, Refused, Request, Result, Site, Some, Status, Wants, World, [], answer_if, ap, bits, false, false≢true, first_some}
+use Rattle.zl_calls.proofs.Common.{get, gives_refused, granted, handle_operands, if◌then◌else◌, left_free, listed, looked_up, may_want, not, operands_fault}
+use Rattle.zl_calls.proofs.Common.{option_or, plain_refusal, refl, replied, result_err, subst, sym, table_of, taken, takes, then_some, true, wants_nothing}
+use Rattle.zl_calls.proofs.Common.{within, ℕ, ◌∙◌, ◌∷◌, ◌≡◌}
 use Rattle.zl_rights.specs.declared.status.Status.TheVariants as status
 use Rattle.zl_code.specs.declared.history.Outcome.TheVariants as outcome
-use Rattle.zl_calls.proofs.Common.{Objects}
-use Rattle.zl_code.specs.Own.{left_free}
-use Rattle.zl_calls.specs.declared.process.Process.{Process}
 use Rattle.zl_calls.proofs.calls.Owned.{IsOwn, own_in}
-use Rattle.zl_calls.specs.Own.{FreeBy}
 pub use Rattle.zl_calls.proofs.policy.Plain.{answers}
 
 -- ---- handles that were looked up

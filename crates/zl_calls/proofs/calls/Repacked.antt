@@ -1,13 +1,9 @@
 -- What the calls on a port have in common: what packets are there, and what it means that those of one port change.
-use Rattle.zl_calls.proofs.Common.{IsConsistent, List, Map, None, Objects, Option, Packet, Port, Replies, Site, Some, World, ap, at_port, body_in, body_value}
-use Rattle.zl_calls.proofs.Common.{changing_port, get, get_seen, map, object_entry, object_value, on_object, option_map, packets_found, packets_of, refl}
-use Rattle.zl_calls.proofs.Common.{repacked, replied, world_value, ℕ, ◌≡◌}
+use Rattle.zl_calls.proofs.Common.{Body, IsConsistent, List, Map, None, Object, Objects, Option, Packet, Port, Process, Replies, Site, Some, World, ap, at_port}
+use Rattle.zl_calls.proofs.Common.{body_in, body_value, changing_port, get, get_seen, map, object_entry, object_value, on_object, option_map, packets_found}
+use Rattle.zl_calls.proofs.Common.{packets_in, packets_of, refl, repacked, replied, world_value, ℕ, ◌≡◌}
 use Rattle.zl_rights.specs.declared.status.Status.TheVariants as status
-use Rattle.zl_code.specs.Waiting.{packets_in}
-use Rattle.zl_objects.specs.declared.object.Body.{Body}
 use Rattle.zl_objects.specs.declared.object.Body.TheVariants as body
-use Rattle.zl_objects.specs.declared.object.Object.{Object}
-use Rattle.zl_calls.specs.declared.process.Process.{Process}
 use Rattle.zl_calls.proofs.calls.Answered.{IsWrite, replied_changed}
 use Rattle.zl_calls.proofs.objects.Packed.{packed_consistent, packed_seen}
 use Rattle.zl_calls.proofs.processes.Written.{refusal_keeps}

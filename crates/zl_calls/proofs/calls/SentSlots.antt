@@ -1,19 +1,16 @@
 -- Handles that a call sends from the places of a slot array.
-use Rattle.zl_calls.proofs.Common.{Acted, Bool, CallInstr, ChanWriteDoes, Cpu, Entry, Err, Handles, IfSome, IsSome, List, Map, Objects, Ok, Outcome, Result}
-use Rattle.zl_calls.proofs.Common.{Some, Status, TRANSFER, [], and_parts, ap, contains, drop, eqb-true, false, false≢true, fault_of, get_or, if◌then◌else◌}
-use Rattle.zl_calls.proofs.Common.{length, list_refusal, looked_up, ne_eqb, no_value, not, number_at, option_or, refl, reg, replicate, site_at, site_in}
-use Rattle.zl_calls.proofs.Common.{site_named, site_of, slice_get, slice_index, status_of, subst, sym, take, then_some, true, ℕ, ⊤, ◌&&◌, ◌++◌, ◌+◌, ◌<◌, ◌==◌}
-use Rattle.zl_calls.proofs.Common.{◌||◌, ◌∙◌, ◌∷◌, ◌≡◌, ◌≢◌}
+use Rattle.zl_calls.proofs.Common.{Acted, Bool, CallInstr, ChanWriteDoes, Cpu, Entry, Err, Handles, IfSome, IsSome, List, Map, Objects, Ok, Outcome, Process}
+use Rattle.zl_calls.proofs.Common.{Result, Some, Status, TRANSFER, [], and_parts, ap, array_in, bytes_in, contains, drop, emptied_count, eqb-true, false}
+use Rattle.zl_calls.proofs.Common.{false≢true, fault_of, filled, filled_among, get_or, if◌then◌else◌, length, list_refusal, looked_up, ne_eqb, no_value, not}
+use Rattle.zl_calls.proofs.Common.{number_at, option_or, refl, reg, replicate, site_at, site_in, site_named, site_of, slice_get, slice_index, slots_filled}
+use Rattle.zl_calls.proofs.Common.{status_of, subst, sym, take, then_some, true, ℕ, ⊤, ◌&&◌, ◌++◌, ◌+◌, ◌<◌, ◌==◌, ◌||◌, ◌∙◌, ◌∷◌, ◌≡◌, ◌≢◌}
 use Rattle.std.proofs.lemmas.List.{append-nil, drop_more, take_more}
 use Rattle.std.proofs.lemmas.List.Elements.{filter-append}
-use Rattle.zl_code.specs.Asked.{array_in, bytes_in, emptied_count, filled_among, has_places, is_range_there}
-use Rattle.zl_code.specs.Effects.{slots_filled}
+use Rattle.zl_code.specs.Asked.{has_places, is_range_there}
 use Rattle.zl_code.specs.declared.history.CallName.TheVariants as name
 use Rattle.zl_code.specs.declared.history.Outcome.TheVariants as outcome
 use Rattle.zl_rights.specs.declared.status.Status.TheVariants as status
 use Rattle.zl_calls.specs.calls.Answer.{answered_in}
-use Rattle.zl_calls.specs.calls.Channel.{filled}
-use Rattle.zl_calls.specs.declared.process.Process.{Process}
 
 -- ---- places one by one
 

@@ -1,16 +1,13 @@
 -- A call that takes handles: they leave the table of its caller, and close where the call is refused.
-use Rattle.zl_rights.specs.Values.{given_back}
 use Rattle.zl_calls.proofs.Common.{AreSound, AtCall, Bool, CallName, DoesTaking, Entry, Err, Handles, IsConsistent, IsNamed, IsTable, IsTrue, Library, List}
-use Rattle.zl_calls.proofs.Common.{Map, None, Objects, Ok, Option, Outcome, Ready, Releases, Replies, Result, Site, Some, Status, World, [], ap, arith}
-use Rattle.zl_calls.proofs.Common.{cases_Bool, cond, count_by, cpu_answered, eq-eqb, eqb-true, false, false≢true, get, get-put, get-without, has_key}
-use Rattle.zl_calls.proofs.Common.{if◌then◌else◌, inl, inr, is_some, is_sorted, koids_in, length-without, map, may_want, nat_cmp, next_for, none-some}
-use Rattle.zl_calls.proofs.Common.{on_process, option_to_list, plain_refusal, process_entry, process_value, process_without, put, refl, remove_all, replied}
-use Rattle.zl_calls.proofs.Common.{sorted_put, sorted_without, state_value, status_of, subst, sum_by-cons, sym, taken_from, taken_handles, true, update}
-use Rattle.zl_calls.proofs.Common.{values_of, without, without_handle, without_handles, world_value, ℕ, ◌++◌, ◌+◌, ◌==◌, ◌∙◌, ◌∷◌, ◌≡◌, ◌⊎◌}
-use Rattle.zl_code.proofs.Common.{Process as ProcessValue}
+use Rattle.zl_calls.proofs.Common.{Map, None, Objects, Ok, Option, Outcome, Process, ProcessValue, Ready, Releases, Replies, Result, Site, Some, Status, World}
+use Rattle.zl_calls.proofs.Common.{[], ap, arith, cases_Bool, cond, count_by, cpu_answered, eq-eqb, eqb-true, false, false≢true, get, get-put, get-without}
+use Rattle.zl_calls.proofs.Common.{given_back, has_key, if◌then◌else◌, inl, inr, is_some, is_sorted, koids_in, length-without, map, may_want, nat_cmp, next_for}
+use Rattle.zl_calls.proofs.Common.{none-some, on_process, option_to_list, plain_refusal, process_entry, process_value, process_without, put, refl, remove_all}
+use Rattle.zl_calls.proofs.Common.{replied, sorted_put, sorted_without, state_value, status_of, subst, sum_by-cons, sym, taken_from, taken_handles, true}
+use Rattle.zl_calls.proofs.Common.{update, values_of, without, without_handle, without_handles, world_value, ℕ, ◌++◌, ◌+◌, ◌==◌, ◌∙◌, ◌∷◌, ◌≡◌, ◌⊎◌}
 use Rattle.zl_rights.specs.declared.status.Status.TheVariants as status
 use Rattle.zl_code.specs.declared.history.Outcome.TheVariants as outcome
-use Rattle.zl_calls.specs.declared.process.Process.{Process}
 use Rattle.zl_calls.proofs.calls.Answered.{IsWrite, replied_with, with_table}
 use Rattle.zl_calls.proofs.objects.Counting.{count_put, count_without}
 use Rattle.zl_calls.proofs.calls.DoneCalls.{IsDone, IsCalled, called_done}

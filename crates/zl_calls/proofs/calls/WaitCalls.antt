@@ -1,14 +1,12 @@
 -- The calls wait_one and wait_poll, from their table and objects to a step.
-use Rattle.zl_calls.proofs.Common.{Bool, Entry, Err, IsConsistent, IsTold, Library, List, Map, None, Objects, Ok, Option, Outcome, Refused, Replies, Result}
-use Rattle.zl_calls.proofs.Common.{SignalOf, Signals, Site, Some, Status, Values, WAIT, World, [], active_at, answer_if, any, ap, awaited_by, bits, effect}
-use Rattle.zl_calls.proofs.Common.{false, false≢true, first_some, get, gives_ok, gives_refused, granted, handle_operands, if◌then◌else◌, insert_all}
-use Rattle.zl_calls.proofs.Common.{is_active_at, is_mask, koid_in, listed, looked_up, may_choose, meets, new_handles, not, object_at, operands_fault}
-use Rattle.zl_calls.proofs.Common.{plain_refusal, refl, remove_all, replied, result_err, signals_at, subst, sym, taken_handles, told_by, true, wait_one}
-use Rattle.zl_calls.proofs.Common.{wait_poll, wants_nothing, within, world_value, ℕ, ◌∙◌, ◌∷◌, ◌≡◌}
+use Rattle.zl_calls.proofs.Common.{Bool, Entry, Err, IsConsistent, IsTold, Library, List, Map, None, Object, Objects, Ok, Option, Outcome, Process, Refused}
+use Rattle.zl_calls.proofs.Common.{Replies, Result, SignalOf, Signals, Site, Some, Status, Values, WAIT, World, [], active_at, answer_if, any, ap, awaited_by}
+use Rattle.zl_calls.proofs.Common.{bits, effect, false, false≢true, first_some, get, gives_ok, gives_refused, granted, handle_operands, if◌then◌else◌}
+use Rattle.zl_calls.proofs.Common.{insert_all, is_active_at, is_mask, koid_in, listed, looked_up, may_choose, meets, new_handles, not, object_at}
+use Rattle.zl_calls.proofs.Common.{operands_fault, plain_refusal, refl, remove_all, replied, result_err, signals_at, subst, sym, taken_handles, told_by, true}
+use Rattle.zl_calls.proofs.Common.{wait_one, wait_poll, wants_nothing, within, world_value, ℕ, ◌∙◌, ◌∷◌, ◌≡◌}
 use Rattle.zl_rights.specs.declared.status.Status.TheVariants as status
 use Rattle.zl_code.specs.declared.history.Outcome.TheVariants as outcome
-use Rattle.zl_objects.specs.declared.object.Object.{Object}
-use Rattle.zl_calls.specs.declared.process.Process.{Process}
 use Rattle.zl_calls.specs.declared.calls.wait.PollFault.{PollFault}
 use Rattle.zl_calls.specs.declared.calls.wait.PollFault.TheVariants as fault
 use Rattle.zl_calls.specs.calls.Wait.{SeesActive, WaitOneDoes, WaitPollDoes, is_seen, polled_at, polled_by, polled_status, told_polled, watched_at, watched_of}

@@ -1,11 +1,9 @@
 -- What port_wait does in each of its cases: it is refused, it takes a packet, or it blocks.
-use Rattle.zl_calls.proofs.Common.{ActsHere, Blocked, Entry, Err, IsTold, List, None, Objects, Ok, Outcome, Packet, PacketAt, READ, Result, Site, Some, Status}
-use Rattle.zl_calls.proofs.Common.{TakesPacket, [], action_asked, answered_in, ap, changing_port, get, inl, inr, packet_values, packets_found, port_at}
-use Rattle.zl_calls.proofs.Common.{port_wait, refl, site, slice_get, state_value, subst, sym, told_by, without_front, ℕ, ◌<◌, ◌^◌, ◌∙◌, ◌≡◌}
+use Rattle.zl_calls.proofs.Common.{ActsHere, Blocked, Entry, Err, IsTold, List, None, Objects, Ok, Outcome, Packet, PacketAt, Process, READ, Result, Site, Some}
+use Rattle.zl_calls.proofs.Common.{State, Status, TakesPacket, [], action_asked, answered_in, ap, changing_port, get, inl, inr, packet_values, packets_found}
+use Rattle.zl_calls.proofs.Common.{port_at, port_wait, refl, site, slice_get, state_value, subst, sym, told_by, without_front, ℕ, ◌<◌, ◌^◌, ◌∙◌, ◌≡◌}
 use Rattle.zl_code.specs.declared.history.Outcome.TheVariants as outcome
 use Rattle.zl_rights.specs.declared.status.Status.TheVariants as status
-use Rattle.zl_calls.specs.declared.process.Process.{Process}
-use Rattle.zl_calls.specs.declared.process.State.{State}
 use Rattle.zl_calls.proofs.calls.Polled.{nothing_polled, packet_polled}
 
 module _ (value : ℕ) (destinations : List ℕ) (p : Process) (r : Objects) where

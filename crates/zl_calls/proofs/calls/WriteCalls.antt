@@ -1,26 +1,22 @@
 -- The calls chan_write and chan_write_slots, from their table and objects to a step.
-use Rattle.zl_rights.specs.Values.{given_back}
-use Rattle.zl_calls.proofs.Common.{All, All-append, All-cons, All-nil, AreNamed, AreSound, Bool, ChanWriteDoes, Entry, Handles, IsConsistent, IsNamed, IsTrue}
-use Rattle.zl_calls.proofs.Common.{Library, List, Map, Message, None, Objects, Ok, Operand, Option, Replies, Site, Some, Status, TRANSFER, Values, WRITE, World}
-use Rattle.zl_calls.proofs.Common.{WritesMessage, [], answer_if, any, ap, arith, body_in, body_value, body_with_message, cases_Bool, chan_write}
-use Rattle.zl_calls.proofs.Common.{chan_write_slots, cond, consumes, contains, count_by, effect, eq-eqb, false, false≢true, fault_of, filter, first_some}
-use Rattle.zl_calls.proofs.Common.{flat_map, get, get-update, get-without, get_seen, gives_ok, gives_refused, handle_operands, handles_to, has_key, has_seen}
-use Rattle.zl_calls.proofs.Common.{if◌then◌else◌, inl, inr, insert_all, is_some, kind_of, koids_in, length, list_any-append, list_refusal, listed, looked_up}
-use Rattle.zl_calls.proofs.Common.{map, may_choose, message_sent, new_handles, no_value, none-some, not, object_entry, object_value, on_object, on_process}
-use Rattle.zl_calls.proofs.Common.{operand_by, operands_fault, option_map, option_or, option_to_list, or_parts, peer_here, plain_refusal, process_entry}
-use Rattle.zl_calls.proofs.Common.{process_value, queued_to, refl, remove_all, replied, result_err, same_Some, sum_by-append, sum_by-cons, sym, taken}
-use Rattle.zl_calls.proofs.Common.{taken_from, taken_handles, takes, then_some, told_by, true, update, wants_memory, with_effect, without, without_handle}
-use Rattle.zl_calls.proofs.Common.{without_handles, world_value, write_refusal, ℕ, ◌++◌, ◌+◌, ◌<◌, ◌==◌, ◌||◌, ◌∙◌, ◌∷◌, ◌≡◌, ◌⊎◌}
-use Rattle.zl_code.proofs.Common.{Object as ObjectValue}
+use Rattle.zl_calls.proofs.Common.{All, All-append, All-cons, All-nil, AreNamed, AreSound, Body, Bool, ChanWriteDoes, Entry, Handles, IsConsistent, IsNamed}
+use Rattle.zl_calls.proofs.Common.{IsTrue, Library, List, Map, Message, None, Object, ObjectValue, Objects, Ok, Operand, Option, Process, Replies, Site, Some}
+use Rattle.zl_calls.proofs.Common.{Status, TRANSFER, Values, WRITE, World, WritesMessage, [], answer_if, any, ap, arith, body_in, body_value, body_with_message}
+use Rattle.zl_calls.proofs.Common.{cases_Bool, chan_write, chan_write_slots, cond, consumes, contains, count_by, effect, eq-eqb, false, false≢true, fault_of}
+use Rattle.zl_calls.proofs.Common.{filter, first_some, flat_map, get, get-update, get-without, get_seen, given_back, gives_ok, gives_refused, handle_operands}
+use Rattle.zl_calls.proofs.Common.{handles_to, has_key, has_seen, if◌then◌else◌, inl, inr, insert_all, is_some, kind_of, koids_in, length, list_any-append}
+use Rattle.zl_calls.proofs.Common.{list_refusal, listed, looked_up, map, may_choose, message_sent, new_handles, no_value, none-some, not, object_entry}
+use Rattle.zl_calls.proofs.Common.{object_value, on_object, on_process, operand_by, operands_fault, option_map, option_or, option_to_list, or_parts, peer_at}
+use Rattle.zl_calls.proofs.Common.{peer_here, plain_refusal, process_entry, process_value, queue_held, queued_to, refl, remove_all, replied, result_err}
+use Rattle.zl_calls.proofs.Common.{same_Some, sum_by-append, sum_by-cons, sym, taken, taken_from, taken_handles, takes, then_some, told_by, true, update}
+use Rattle.zl_calls.proofs.Common.{wants_memory, with_effect, without, without_handle, without_handles, world_value, write_refusal, ℕ, ◌++◌, ◌+◌, ◌<◌, ◌==◌}
+use Rattle.zl_calls.proofs.Common.{◌||◌, ◌∙◌, ◌∷◌, ◌≡◌, ◌⊎◌}
 use Rattle.zl_rights.specs.declared.kind.Kind.TheVariants as kind
 use Rattle.zl_rights.specs.declared.status.Status.TheVariants as status
 use Rattle.zl_code.specs.declared.history.Outcome.TheVariants as outcome
-use Rattle.zl_code.specs.Tests.{entries_at, is_too_large, peer_at, peer_in}
-use Rattle.zl_objects.specs.declared.object.Body.{Body}
+use Rattle.zl_code.specs.Tests.{entries_at, is_too_large, peer_in}
 use Rattle.zl_objects.specs.declared.object.Body.TheVariants as body
-use Rattle.zl_objects.specs.declared.object.Object.{Object}
-use Rattle.zl_objects.specs.Objects.{if_there, is_channel_body, is_channel_in, peer_found, peer_of, queue_held, reader_at, reader_of, sending, sent, sent_body}
-use Rattle.zl_calls.specs.declared.process.Process.{Process}
+use Rattle.zl_objects.specs.Objects.{if_there, is_channel_body, is_channel_in, peer_found, peer_of, reader_at, reader_of, sending, sent, sent_body}
 use Rattle.zl_calls.proofs.calls.Owned.{own_entered}
 use Rattle.zl_calls.proofs.calls.Answered.{IsWrite, asking, table_is}
 use Rattle.zl_calls.proofs.objects.Counting.{queues, sum_update}

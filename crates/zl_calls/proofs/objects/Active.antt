@@ -1,12 +1,9 @@
 -- What is active at an object: the objects tell it, without the processes.
-use Rattle.zl_calls.proofs.Common.{Agrees, IsConsistent, IsTrue, List, Map, Objects, ShowStates, Some, World, active, get, has_key, is_sorted, nat_cmp}
-use Rattle.zl_calls.proofs.Common.{signals_at, world_value, ℕ, ◌<◌, ◌≡◌}
-use Rattle.zl_objects.specs.declared.object.Body.{Body}
+use Rattle.zl_calls.proofs.Common.{Agrees, Body, IsConsistent, IsTrue, List, Map, Object, Objects, Process, ShowStates, Some, World, active, get, has_key}
+use Rattle.zl_calls.proofs.Common.{is_sorted, nat_cmp, signals_at, world_value, ℕ, ◌<◌, ◌≡◌}
 use Rattle.zl_objects.specs.declared.object.Body.TheVariants as body
-use Rattle.zl_objects.specs.declared.object.Object.{Object}
 use Rattle.zl_objects.specs.Signals.{Shows}
 use Rattle.zl_objects.proofs.Showing.{are_active}
-use Rattle.zl_calls.specs.declared.process.Process.{Process}
 
 -- an object that agrees with its process shows what that is in
 shown : (w : World) (k : ℕ) (b : Body) → Agrees w k b → Shows w k b

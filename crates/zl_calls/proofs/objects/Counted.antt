@@ -1,13 +1,9 @@
 -- A handle that counts is in a table or in a queue, and names an object that is there.
-use Rattle.zl_calls.proofs.Common.{All, All-head, All-tail, AreNamed, AreSound, Bool, Entry, Found, IsNamed, IsTable, IsTrue, List, Map, Message, Objects, []}
-use Rattle.zl_calls.proofs.Common.{any_found, any_seen, arith, body_value, count_by, count_none, eqb-true, false≢true, handles_to, has_key, inl, inr, list_any}
-use Rattle.zl_calls.proofs.Common.{map, named_queue, names, object_entry, or_cases, positive_part, process_entry, queued_to, refl, subst, suc, sum_by}
-use Rattle.zl_calls.proofs.Common.{summed_any, sym, world_value, zero, ℕ, ◌<◌, ◌==◌, ◌∙◌, ◌∷◌, ◌≡◌, ◌⊎◌}
-use Rattle.zl_code.proofs.Common.{queue_of}
-use Rattle.zl_objects.specs.declared.object.Body.{Body}
+use Rattle.zl_calls.proofs.Common.{All, All-head, All-tail, AreNamed, AreSound, Body, Bool, Entry, Found, IsNamed, IsTable, IsTrue, List, Map, Message, Objects}
+use Rattle.zl_calls.proofs.Common.{Process, [], any_found, any_seen, arith, body_value, count_by, count_none, eqb-true, false≢true, handles_to, has_key, inl}
+use Rattle.zl_calls.proofs.Common.{inr, list_any, map, named_queue, names, object_entry, or_cases, positive_part, process_entry, queue_held, queue_of}
+use Rattle.zl_calls.proofs.Common.{queued_to, refl, subst, suc, sum_by, summed_any, sym, world_value, zero, ℕ, ◌<◌, ◌==◌, ◌∙◌, ◌∷◌, ◌≡◌, ◌⊎◌}
 use Rattle.zl_objects.specs.declared.object.Body.TheVariants as body
-use Rattle.zl_objects.specs.Objects.{queue_held}
-use Rattle.zl_calls.specs.declared.process.Process.{Process}
 
 -- what is true of each is true of the one that passes
 all_any : {X : Type 0} (P : X → Type 0) (test : X → Bool) (C : Type 0) → ((x : X) → P x → IsTrue (test x) → C) → (xs : List X) → All P xs

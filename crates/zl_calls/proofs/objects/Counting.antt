@@ -1,12 +1,8 @@
 -- How many handles name an object, in tables and in queues, after a change of one table or of the objects.
-use Rattle.zl_calls.proofs.Common.{Bool, Entry, IsTrue, List, Map, None, Objects, Some, ap, arith, body_value, cases_Bool, cond, count_by, false, get}
-use Rattle.zl_calls.proofs.Common.{handles_to, inl, inr, is_sorted, map, map-append, nat_cmp, nat_lt, new_object, none-some, object_entry, process_entry}
-use Rattle.zl_calls.proofs.Common.{process_value, put, queued_to, refl, suc, sum_by, sum_by-append, sum_by-cons, sum_fewer, sum_without, sym, true}
-use Rattle.zl_calls.proofs.Common.{update, with_new, without, world_value, ℕ, ◌+◌, ◌==◌, ◌∙◌, ◌∷◌, ◌≡◌, []}
-use Rattle.zl_code.proofs.Common.{Process as ProcessValue}
-use Rattle.zl_objects.specs.declared.object.Body.{Body}
-use Rattle.zl_objects.specs.declared.object.Object.{Object}
-use Rattle.zl_calls.specs.declared.process.Process.{Process}
+use Rattle.zl_calls.proofs.Common.{Body, Bool, Entry, IsTrue, List, Map, None, Object, Objects, Process, ProcessValue, Some, [], ap, arith, body_value}
+use Rattle.zl_calls.proofs.Common.{cases_Bool, cond, count_by, false, get, handles_to, inl, inr, is_sorted, map, map-append, nat_cmp, nat_lt, new_object}
+use Rattle.zl_calls.proofs.Common.{none-some, object_entry, process_entry, process_value, put, queued_to, refl, suc, sum_by, sum_by-append, sum_by-cons}
+use Rattle.zl_calls.proofs.Common.{sum_fewer, sum_without, sym, true, update, with_new, without, world_value, ℕ, ◌+◌, ◌==◌, ◌∙◌, ◌∷◌, ◌≡◌}
 use Rattle.zl_calls.proofs.calls.Answered.{IsWrite}
 use Rattle.zl_objects.proofs.Sums.{sum_updated}
 

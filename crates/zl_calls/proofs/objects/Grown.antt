@@ -1,18 +1,14 @@
 -- One object more, with the handles that name it and are to enter a table: what the invariant says of both.
-use Rattle.zl_calls.proofs.Common.{Agrees, All, All-nil, AreKeptBut, AreNamed, AreSound, Bool, Entry, IsConsistent, IsNamed, IsTrue, List, Map, Message, None}
-use Rattle.zl_calls.proofs.Common.{Objects, Option, Pair, Some, World, [], ap, arith, body_value, cases_Bool, cond, count_by, default_rights_of, eq-eqb}
-use Rattle.zl_calls.proofs.Common.{eqb-true, false, false≢true, get, get-put, handles_to, has_key, has_living_child_here, has_seen, if◌then◌else◌, inl, inr}
-use Rattle.zl_calls.proofs.Common.{is_child, is_in_job, is_job_at, is_job_in, is_kept, is_killed, is_process, is_some, is_sorted, kept_all, kind_of, list_any}
-use Rattle.zl_calls.proofs.Common.{map, map-append, more_in_job, nat_cmp, nat_lt, new_object, object_entry, object_value, process_entry, put, put_key, put_last}
-use Rattle.zl_calls.proofs.Common.{queued_to, refl, runs, same_Some, sorted_put, state_passes, stays_alone, subst, sum_by-cons, sym, true, with_new, within}
-use Rattle.zl_calls.proofs.Common.{world_value, ℕ, ◌++◌, ◌+◌, ◌<◌, ◌==◌, ◌^◌, ◌||◌, ◌∙◌, ◌∷◌, ◌≡◌}
-use Rattle.zl_code.proofs.Common.{Process as ProcessValue, State}
-use Rattle.zl_objects.specs.declared.object.Body.{Body}
+use Rattle.zl_calls.proofs.Common.{Agrees, All, All-nil, AreKeptBut, AreNamed, AreSound, Body, Bool, Entry, IsConsistent, IsNamed, IsTrue, List, Map, Message}
+use Rattle.zl_calls.proofs.Common.{None, Object, Objects, Option, Pair, Process, ProcessValue, Some, StateValue, World, [], ap, arith, body_value, cases_Bool}
+use Rattle.zl_calls.proofs.Common.{cond, count_by, default_rights_of, end_to, eq-eqb, eqb-true, false, false≢true, get, get-put, handles_to, has_key}
+use Rattle.zl_calls.proofs.Common.{has_living_child_here, has_seen, if◌then◌else◌, inl, inr, is_child, is_in_job, is_job_at, is_job_in, is_kept, is_killed}
+use Rattle.zl_calls.proofs.Common.{is_process, is_some, is_sorted, kept_all, kind_of, kind_of_pair, list_any, map, map-append, more_in_job, nat_cmp, nat_lt}
+use Rattle.zl_calls.proofs.Common.{new_object, object_entry, object_value, process_entry, put, put_key, put_last, queue_held, queued_to, refl, runs, same_Some}
+use Rattle.zl_calls.proofs.Common.{sorted_put, state_passes, stays_alone, subst, sum_by-cons, sym, true, with_new, within, world_value, ℕ, ◌++◌, ◌+◌, ◌<◌, ◌==◌}
+use Rattle.zl_calls.proofs.Common.{◌^◌, ◌||◌, ◌∙◌, ◌∷◌, ◌≡◌}
 use Rattle.zl_objects.specs.declared.object.Body.TheVariants as body
-use Rattle.zl_objects.specs.declared.object.Object.{Object}
-use Rattle.zl_calls.specs.declared.process.Process.{Process}
 use Rattle.zl_objects.specs.declared.object.Pair.TheVariants as pair
-use Rattle.zl_objects.specs.Objects.{end_to, kind_of_pair, queue_held}
 use Rattle.zl_calls.proofs.objects.Counted.{never_named}
 use Rattle.zl_calls.proofs.objects.Counting.{queues_grown, same_tables}
 use Rattle.zl_calls.proofs.objects.SameBodies.{kept_each, still_agrees, still_named}
@@ -113,7 +109,7 @@ module _ (ps : List Process) (m : Map Entry) (r : Objects) (sound : AreSound ps 
     pub there_grown : get grown.objects n ≡ Some fresh
     there_grown = get_grown n ∙ rw (eq-eqb n n refl) refl
 
-    not_there : (test : State → Bool) → is_process (world_value ps r) test n ≡ false
+    not_there : (test : StateValue → Bool) → is_process (world_value ps r) test n ≡ false
     unfolding is_process
     not_there test = by_process (get (map process_entry ps) n) refl
       where
@@ -152,7 +148,7 @@ module _ (ps : List Process) (m : Map Entry) (r : Objects) (sound : AreSound ps 
         by_count false h = still_alone j q.body h
 
     -- what it is agrees with there being no such process, and no message is in it; none of the handles m names it, and so many of m2 do
-    module _ (quiet : ((test : State → Bool) → is_process (world_value ps r) test n ≡ false) → Agrees (world_value ps r) n b) (empty : queue_held b ≡ [])
+    module _ (quiet : ((test : StateValue → Bool) → is_process (world_value ps r) test n ≡ false) → Agrees (world_value ps r) n b) (empty : queue_held b ≡ [])
         (in_job : IsTrue (is_in_job grown.objects b)) (koid : n < 2 ^ 62)
         (apart_from : ◌≡◌ {A = ℕ} (count_by (λ h. h.1.koid == n) m) 0) (m2 : Map Entry)
         (counted_is : (j : ℕ) → count_by (λ h. h.1.koid == j) m2 ≡ cond (n == j) count 0 + count_by (λ h. h.1.koid == j) m) where
@@ -211,7 +207,7 @@ module _ (ps : List Process) (m : Map Entry) (r : Objects) (sound : AreSound ps 
 
 -- the handle x names it, and is to enter a table too
 pub grown_one : (ps : List Process) (m : Map Entry) (r : Objects) → IsGrowing ps m r → (b : Body)
-    → (((test : State → Bool) → is_process (world_value ps r) test r.next_koid ≡ false) → Agrees (world_value ps r) r.next_koid b) → queue_held b ≡ []
+    → (((test : StateValue → Bool) → is_process (world_value ps r) test r.next_koid ≡ false) → Agrees (world_value ps r) r.next_koid b) → queue_held b ≡ []
     → IsTrue (is_in_job (with_new r b 1).objects b) → r.next_koid < 2 ^ 62 → ◌≡◌ {A = ℕ} (count_by (λ h. h.1.koid == r.next_koid) m) 0 → (x : ℕ × Entry)
     → x.1.koid ≡ r.next_koid → IsGrowing ps (x ∷ m) (with_new r b 1)
 grown_one ps m r growing b quiet empty in_job koid apart_from x names = record {

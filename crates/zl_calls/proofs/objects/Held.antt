@@ -1,13 +1,9 @@
 -- An object is held once more: what the world sees of it, and the invariant, where the handle is to enter a table.
-use Rattle.zl_calls.proofs.Common.{AreKeptBut, AreSound, Entry, IsTrue, List, Map, None, Objects, Some, [], ap, arith, cond, count_by, eq-eqb, false, get}
-use Rattle.zl_calls.proofs.Common.{handles_to, held_once_more, holding, nat_lt, nat_tests, object_value, put, refl, true, world_value, ℕ, ◌+◌, ◌<◌, ◌==◌, ◌^◌}
-use Rattle.zl_calls.proofs.Common.{◌≡◌}
-use Rattle.zl_objects.specs.declared.object.Object.{Object}
-use Rattle.zl_objects.specs.Objects.{queue_held}
-use Rattle.zl_calls.specs.declared.process.Process.{Process}
+use Rattle.zl_calls.proofs.Common.{AreKeptBut, AreSound, Entry, IsTrue, List, Map, None, Object, Objects, Process, Some, [], ap, arith, cond, count_by, eq-eqb}
+use Rattle.zl_calls.proofs.Common.{false, get, handles_to, held_once_more, holding, more_same, nat_lt, nat_tests, object_value, put, queue_held, refl, true}
+use Rattle.zl_calls.proofs.Common.{world_value, ℕ, ◌+◌, ◌<◌, ◌==◌, ◌^◌, ◌≡◌}
 use Rattle.zl_calls.proofs.objects.Counting.{count_put}
 use Rattle.zl_calls.proofs.objects.Rebodied.{KeepsKind, changed_sound, kept_still, quiet_named, same_handles, same_kind}
-use Rattle.zl_objects.proofs.Whole.{more_same}
 
 pub held_value : (o : Object) → object_value (held_once_more o) ≡ object_value o
 held_value o =

@@ -1,11 +1,7 @@
 -- The packets of one port change, and nothing else: what is seen of it, and the invariant.
-use Rattle.zl_calls.proofs.Common.{IsConsistent, List, Objects, Packet, Port, PortBody, ap, at_port, body_packed, body_value, changed_port, changing_port}
-use Rattle.zl_calls.proofs.Common.{object_value, refl, repacked, ℕ, ◌≡◌}
-use Rattle.zl_objects.specs.declared.object.Body.{Body}
+use Rattle.zl_calls.proofs.Common.{Body, IsConsistent, List, Object, Objects, Packet, Port, PortBody, Process, ap, at_port, body_packed, body_value}
+use Rattle.zl_calls.proofs.Common.{changed_port, changing_port, object_value, queue_held, refl, repacked, ℕ, ◌≡◌}
 use Rattle.zl_objects.specs.declared.object.Body.TheVariants as body
-use Rattle.zl_objects.specs.declared.object.Object.{Object}
-use Rattle.zl_objects.specs.Objects.{queue_held}
-use Rattle.zl_calls.specs.declared.process.Process.{Process}
 use Rattle.zl_calls.proofs.objects.Rebodied.{IsAlike, alike_itself, quiet_consistent}
 
 module _ (f : Port → Port) where

@@ -1,11 +1,7 @@
 -- The queue of one object changes, and nothing else of it: what the invariant says of the objects.
-use Rattle.zl_calls.proofs.Common.{AreKeptBut, AreNamed, AreSound, Entry, IsNamed, List, Map, Message, Objects, Some, [], arith, count_by, get, handles_to}
-use Rattle.zl_calls.proofs.Common.{refl, update, world_value, ℕ, ◌+◌, ◌==◌, ◌≡◌}
-use Rattle.zl_objects.specs.declared.object.Body.{Body}
+use Rattle.zl_calls.proofs.Common.{AreKeptBut, AreNamed, AreSound, Body, Entry, IsNamed, List, Map, Message, Object, Objects, Process, Some, [], arith}
+use Rattle.zl_calls.proofs.Common.{count_by, get, handles_to, queue_held, refl, update, world_value, ℕ, ◌+◌, ◌==◌, ◌≡◌}
 use Rattle.zl_objects.specs.declared.object.Body.TheVariants as body
-use Rattle.zl_objects.specs.declared.object.Object.{Object}
-use Rattle.zl_objects.specs.Objects.{queue_held}
-use Rattle.zl_calls.specs.declared.process.Process.{Process}
 use Rattle.zl_calls.proofs.objects.Counting.{queues}
 use Rattle.zl_calls.proofs.objects.Rebodied.{IsAlike, alike_itself, named_still, recounted_kept, recounted_sound}
 

@@ -1,13 +1,9 @@
 -- One object becomes another that is of its kind and is kept as it was: what the invariant says of the objects.
-use Rattle.zl_calls.proofs.Common.{Agrees, AreKeptBut, AreNamed, AreSound, Entry, IsConsistent, IsNamed, IsTrue, List, Map, Message, Objects, Some, World, []}
-use Rattle.zl_calls.proofs.Common.{alone_changed, ap, body_value, count_by, false, get, handles_to, has_key-update, inl, inr, is_child, is_in_job, is_kept}
-use Rattle.zl_calls.proofs.Common.{is_process, is_sorted-update, kept_all, kind_of, nat_lt, or_cases, or_left, or_right, queued_to, refl, same_in_job}
-use Rattle.zl_calls.proofs.Common.{stays_alone, subst, sum_by, sym, update, world_value, ℕ, ◌+◌, ◌==◌, ◌∙◌, ◌≡◌}
-use Rattle.zl_objects.specs.declared.object.Body.{Body}
+use Rattle.zl_calls.proofs.Common.{Agrees, AreKeptBut, AreNamed, AreSound, Body, Entry, IsConsistent, IsNamed, IsTrue, List, Map, Message, Object, Objects}
+use Rattle.zl_calls.proofs.Common.{Process, Some, World, [], alone_changed, ap, body_value, count_by, false, get, handles_to, has_key-update, inl, inr}
+use Rattle.zl_calls.proofs.Common.{is_child, is_in_job, is_kept, is_process, is_sorted-update, kept_all, kind_of, nat_lt, or_cases, or_left, or_right}
+use Rattle.zl_calls.proofs.Common.{queue_held, queued_to, refl, same_in_job, stays_alone, subst, sum_by, sym, update, world_value, ℕ, ◌+◌, ◌==◌, ◌∙◌, ◌≡◌}
 use Rattle.zl_objects.specs.declared.object.Body.TheVariants as body
-use Rattle.zl_objects.specs.declared.object.Object.{Object}
-use Rattle.zl_objects.specs.Objects.{queue_held}
-use Rattle.zl_calls.specs.declared.process.Process.{Process}
 use Rattle.zl_calls.proofs.objects.Counting.{queues_kept, same_tables}
 use Rattle.zl_calls.proofs.objects.SameBodies.{each_updated, jobs_kept, kept_each, named_kept, still_agrees, still_named}
 use Rattle.zl_calls.proofs.objects.Settled.{consistent_of, sound_of}

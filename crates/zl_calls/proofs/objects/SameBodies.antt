@@ -1,13 +1,10 @@
 -- A change of one object that leaves its kind or its body as it is: what the invariant says of those stays.
-use Rattle.zl_calls.proofs.Common.{Agrees, AreKeptBut, AreNamed, Bool, Entry, IsNamed, IsTrue, Kind, List, Map, Message, None, Option, Some, World, [], ap}
-use Rattle.zl_calls.proofs.Common.{body_value, cases_Bool, eqb-true, false, false≢true, get, get-update, has_ended, if◌then◌else◌, inl, inr, is_job_at}
-use Rattle.zl_calls.proofs.Common.{is_job_here, is_kept, is_process, is_sorted, job_changed, kind_of, lives, nat_cmp, none-some, option_map, refl, runs}
-use Rattle.zl_calls.proofs.Common.{same_Some, slice_index_or, subst, sym, true, update, ℕ, ◌==◌, ◌∙◌, ◌≡◌}
-use Rattle.zl_code.proofs.Common.{State}
+use Rattle.zl_calls.proofs.Common.{Agrees, AreKeptBut, AreNamed, Body, Bool, Entry, IsNamed, IsTrue, Kind, List, Map, Message, None, Object, Option, Some}
+use Rattle.zl_calls.proofs.Common.{StateValue, World, [], ap, body_value, cases_Bool, eqb-true, false, false≢true, get, get-update, has_ended, if◌then◌else◌}
+use Rattle.zl_calls.proofs.Common.{inl, inr, is_job_at, is_job_here, is_kept, is_process, is_sorted, job_changed, kind_of, lives, nat_cmp, none-some}
+use Rattle.zl_calls.proofs.Common.{option_map, refl, runs, same_Some, slice_index_or, subst, sym, true, update, ℕ, ◌==◌, ◌∙◌, ◌≡◌}
 use Rattle.zl_rights.specs.declared.kind.Kind.TheVariants as kind
-use Rattle.zl_objects.specs.declared.object.Body.{Body}
 use Rattle.zl_objects.specs.declared.object.Body.TheVariants as body
-use Rattle.zl_objects.specs.declared.object.Object.{Object}
 
 -- an object afterwards is one that was there before, perhaps changed
 pub found_updated : (f : Object → Object) (os : Map Object) (k : ℕ) (A : Type 0) (j : ℕ) (q : Object) → get (update os k f) j ≡ Some q
@@ -33,7 +30,7 @@ pub kept_each : (m : Map Object) → IsTrue (is_sorted nat_cmp m) → ((k : ℕ)
 kept_each m in_order each = record { in_order = in_order; noted = λ k o at unkept. absurd (false≢true (sym unkept ∙ each k o at)) }
 
 -- an object says the same of its process where that passes the same tests
-pub still_agrees : (w w2 : World) (k : ℕ) (b : Body) → ((test : State → Bool) → is_process w2 test k ≡ is_process w test k) → Agrees w k b → Agrees w2 k b
+pub still_agrees : (w w2 : World) (k : ℕ) (b : Body) → ((test : StateValue → Bool) → is_process w2 test k ≡ is_process w test k) → Agrees w k b → Agrees w2 k b
 still_agrees w w2 k (body.Job own) same agrees = same runs ∙ agrees
 still_agrees w w2 k (body.Process job alive) same agrees =
     record { running = agrees.running ∙ sym (same runs); living = agrees.living ∙ sym (same lives); over = agrees.over ∙ sym (same has_ended) }

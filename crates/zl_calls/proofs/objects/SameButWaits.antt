@@ -1,17 +1,14 @@
 -- Objects that are the same but for waits and the places for their packets: the world sees the same, and the invariant holds.
-use Rattle.zl_calls.proofs.Common.{Agrees, AreBeside, AreNamed, AreSameButWaits, Bool, Entry, IsConsistent, IsNamed, IsTrue, List, Map, None, Objects, Option}
-use Rattle.zl_calls.proofs.Common.{Port, Some, Watch, World, ap, at_port, at_port_of, bare, body_value, cases_Bool, changed_port, each, eqb-true, false}
-use Rattle.zl_calls.proofs.Common.{false≢true, find, get, handles_to, has_key, inl, inr, is_some, kind_of, map, object_entry, refl, same_Some, subst, sym, []}
-use Rattle.zl_calls.proofs.Common.{unwatched, unwatching, update, waits_in, watch_of, watched, watching, without_place, world_value, ℕ, ◌==◌, ◌∙◌, ◌∷◌, ◌≡◌}
+use Rattle.zl_calls.proofs.Common.{Agrees, AreBeside, AreNamed, AreSameButWaits, Body, Bool, Entry, IsConsistent, IsNamed, IsTrue, List, Map, None, Object}
+use Rattle.zl_calls.proofs.Common.{Objects, Option, Port, Process, Some, Watch, World, [], ap, at_port, at_port_of, bare, body_value, cases_Bool, changed_port}
+use Rattle.zl_calls.proofs.Common.{each, eqb-true, false, false≢true, find, get, handles_to, has_key, inl, inr, is_some, kind_of, map, object_entry, queue_held}
+use Rattle.zl_calls.proofs.Common.{refl, same_Some, subst, sym, unwatched, unwatching, update, waits_in, watch_of, watched, watching, without_place}
+use Rattle.zl_calls.proofs.Common.{world_value, ℕ, ◌==◌, ◌∙◌, ◌∷◌, ◌≡◌}
 use Rattle.zl_port.specs.Packets.{with_place}
-use Rattle.zl_objects.specs.declared.object.Body.{Body}
 use Rattle.zl_objects.specs.declared.object.Body.TheVariants as body
-use Rattle.zl_objects.specs.declared.object.Object.{Object}
 use Rattle.zl_objects.specs.declared.wait.Wait.{Wait}
-use Rattle.zl_objects.specs.Objects.{queue_held}
 use Rattle.zl_objects.specs.Ports.{unreserved}
 use Rattle.zl_objects.proofs.Bare.{IsAlike, agrees_same, alike, has_same, in_job_same, of_body, same_then, seen_same, still_kept}
-use Rattle.zl_calls.specs.declared.process.Process.{Process}
 use Rattle.zl_calls.proofs.objects.SameBodies.{still_named}
 
 -- ---- what stays

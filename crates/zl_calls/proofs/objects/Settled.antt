@@ -1,23 +1,18 @@
 -- Handles go, and what nothing keeps any more with them: the invariant holds afterwards, and the worlds are settled.
 use Rattle.zl_calls.proofs.Common.{AreKeptBut, AreNamed, AreSound, Bool, Cascades, Drained, Entry, Found, IsConsistent, IsExact, IsNamed, IsTrue, List, Map}
-use Rattle.zl_calls.proofs.Common.{Message, None, Objects, Option, Releases, Settles, Some, Was, World, [], any_counted, any_found, any_summed, ap, arith}
-use Rattle.zl_calls.proofs.Common.{body_value, cascaded, cascaded_was, cond, count_by, counted_any, eq-eqb, false≢true, get, get_seen, handles_to, has_key, inl}
-use Rattle.zl_calls.proofs.Common.{inr, is_process, is_sorted, kind_of, length, list_any, map, names, nat_cmp, none-some, none_left, object_entry, object_value}
-use Rattle.zl_calls.proofs.Common.{or_left, or_right, positive_part, process_entry, queue_named, queued_to, refl, releases_then, same_Some, settles_left}
-use Rattle.zl_calls.proofs.Common.{slice_index_or, sorted_without, subst, suc, sum_by-cons, sym, was_queue, was_seen, with_objects, without, world_value, zero}
-use Rattle.zl_calls.proofs.Common.{ℕ, ◌<◌, ◌==◌, ◌∙◌, ◌∷◌, ◌≡◌, ◌⊎◌}
-use Rattle.zl_code.proofs.Common.{Process as ProcessValue, queue_of}
-use Rattle.zl_objects.specs.declared.object.Object.{Object}
-use Rattle.zl_objects.specs.Objects.{queue_held}
+use Rattle.zl_calls.proofs.Common.{Message, None, Object, Objects, Option, Process, ProcessValue, Releases, Settles, Some, Was, World, [], any_counted}
+use Rattle.zl_calls.proofs.Common.{any_found, any_summed, ap, arith, body_value, cascaded, cascaded_was, cond, count_by, counted_any, eq-eqb, false≢true, get}
+use Rattle.zl_calls.proofs.Common.{get_seen, handles_to, has_key, inl, inr, is_process, is_sorted, kind_of, length, list_any, map, names, nat_cmp, none-some}
+use Rattle.zl_calls.proofs.Common.{none_drained, none_left, object_entry, object_value, or_left, or_right, positive_part, process_entry, queue_held}
+use Rattle.zl_calls.proofs.Common.{queue_named, queue_of, queued_to, refl, releases_then, same_Some, settles_left, slice_index_or, sorted_without, subst, suc}
+use Rattle.zl_calls.proofs.Common.{sum_by-cons, sym, was_queue, was_seen, was_there, with_objects, without, world_value, zero, ℕ, ◌<◌, ◌==◌, ◌∙◌, ◌∷◌, ◌≡◌, ◌⊎◌}
 use Rattle.zl_rights.proofs.MapTests.{any_at}
-use Rattle.zl_calls.specs.declared.process.Process.{Process}
-use Rattle.zl_calls.specs.calls.Process.{none_left as none_drained, one_more}
+use Rattle.zl_calls.specs.calls.Process.{one_more}
 use Rattle.zl_calls.proofs.objects.Counted.{counted_there, is_there, queue_seen}
 use Rattle.zl_calls.proofs.objects.Counting.{count_without}
 use Rattle.zl_calls.proofs.processes.Departed.{all_stay, settled_world}
 use Rattle.zl_calls.proofs.objects.SameBodies.{still_agrees}
 use Rattle.zl_calls.proofs.tables.Taking.{none_goes}
-use Rattle.zl_objects.proofs.Released.{was_there}
 
 -- the world with these objects meets the invariant, and settling leaves it, but for processes that go with their objects
 pub record IsSettled (ps : List Process) (r r2 : Objects) : Type 0 where

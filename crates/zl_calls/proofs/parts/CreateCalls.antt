@@ -1,31 +1,23 @@
 -- The call process_create: how it is refused, and what a process that is made leaves of the world and of the invariant.
-use Rattle.zl_calls.proofs.Common.{Agrees, AreBlocked, AreSound, Bool, Created, Entry, Inserts, IsConsistent, IsTable, IsTrue, Library, List, MANAGE_PROCESS}
-use Rattle.zl_calls.proofs.Common.{Map, None, Objects, Ok, Option, PlainCalls, ProcessBody, Program, Replies, Site, Some, Values, World, [], answer_if, ap}
-use Rattle.zl_calls.proofs.Common.{arith, body_of, cases_Bool, cond, count_by, create_refusal, created_process, effect, eqb-true, false, false≢true, first_some}
-use Rattle.zl_calls.proofs.Common.{get, gives_ok, handle_operands, has_ended, has_koids, has_room, has_room_in, if◌then◌else◌, inl, inr, insert_all, is_blocked}
-use Rattle.zl_calls.proofs.Common.{is_dead_here, is_process, is_some, job_at, lacks_need, listed, lives, looked_up, map, map-append, may_choose, nat_le}
-use Rattle.zl_calls.proofs.Common.{needs_more, new_entry, new_handles, none-some, not, object_at, object_entry, on_process, operands_fault, option_or}
-use Rattle.zl_calls.proofs.Common.{plain_refusal, process_create, process_entry, process_value, process_with, put, refl, remove_all, replied, runs}
-use Rattle.zl_calls.proofs.Common.{slice_get, state_passes, state_value, subst, sum_by-cons, sym, taken, taken_handles, then_some, update, with_effect}
+use Rattle.zl_calls.proofs.Common.{Agrees, AreBlocked, AreSound, Body, Bool, Created, Entry, Free, Inserts, IsConsistent, IsTable, IsTrue, Library, List}
+use Rattle.zl_calls.proofs.Common.{MANAGE_PROCESS, Map, None, Objects, Ok, Option, PlainCalls, Process, ProcessBody, ProcessValue, Program, Replies, Site, Some}
+use Rattle.zl_calls.proofs.Common.{State, StateValue, Values, World, [], action_here, answer_if, ap, arith, body_of, cases_Bool, cond, count_by, create_refusal}
+use Rattle.zl_calls.proofs.Common.{created_process, effect, entered_free, eqb-true, false, false≢true, first_some, free_entry, free_of, free_or, get, gives_ok}
+use Rattle.zl_calls.proofs.Common.{handle_operands, has_ended, has_koids, has_room, has_room_in, if◌then◌else◌, inl, inr, insert_all, is_blocked, is_dead_here}
+use Rattle.zl_calls.proofs.Common.{is_process, is_some, job_at, lacks_need, listed, lives, looked_up, map, map-append, may_choose, nat_le, ne_eqb, needs_more}
+use Rattle.zl_calls.proofs.Common.{new_entry, new_free, new_handles, none-some, not, object_at, object_entry, on_process, operands_fault, option_map, option_or}
+use Rattle.zl_calls.proofs.Common.{plain_refusal, process_at, process_create, process_entry, process_value, process_with, put, refl, remove_all, replied, runs}
+use Rattle.zl_calls.proofs.Common.{slice_get, state_passes, state_value, subst, sum_by-cons, sym, taken, taken_handles, then_some, true, update, with_effect}
 use Rattle.zl_calls.proofs.Common.{with_new, with_object, with_process, world_value, ℕ, ◌&&◌, ◌++◌, ◌+◌, ◌<◌, ◌==◌, ◌^◌, ◌∙◌, ◌∷◌, ◌≡◌}
-use Rattle.zl_code.proofs.Common.{Process as ProcessValue, State as StateValue}
 use Rattle.zl_code.specs.Jobs.{is_dead}
 use Rattle.zl_code.specs.declared.history.Outcome.TheVariants as outcome
 use Rattle.zl_rights.specs.declared.kind.Kind.TheVariants as kind
 use Rattle.zl_rights.specs.declared.status.Status.TheVariants as status
-use Rattle.zl_objects.specs.declared.object.Body.{Body}
 use Rattle.zl_objects.specs.declared.object.Body.TheVariants as body
 use Rattle.zl_objects.specs.declared.object.Life.TheVariants as life
-use Rattle.zl_objects.specs.Jobs.{action_here}
-use Rattle.zl_rights.specs.Values.{Free, new_free}
-use Rattle.zl_calls.specs.World.{free_entry, free_of}
-use Rattle.zl_calls.specs.declared.process.Process.{Process}
-use Rattle.zl_calls.specs.declared.process.State.{State}
-use Rattle.zl_calls.proofs.Common.{false, is_process, lives, ne_eqb, option_map, process_at, state_value, true}
 use Rattle.zl_calls.proofs.calls.Owned.{IsOwn, own_in, own_plain}
 use Rattle.zl_calls.proofs.processes.Freed.{appended_by, entry_there}
 use Rattle.zl_calls.proofs.parts.StartCalls.{process_there}
-use Rattle.zl_code.specs.Own.{entered_free, free_or}
 use Rattle.zl_calls.proofs.calls.Answered.{IsWrite, asking, may_get_inserted, replied_inserted, table_is}
 use Rattle.zl_calls.proofs.objects.Grown.{IsGrowing, grown_seen, kept_grown, there_grown}
 use Rattle.zl_calls.proofs.calls.JobCalls.{IsJobAt, body_seen, job_found, job_looked_up, stands_grown}

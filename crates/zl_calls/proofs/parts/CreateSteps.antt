@@ -1,23 +1,22 @@
 -- The call process_create in the midst of all processes: from what it did to a step, up to where processes wake.
 use Rattle.zl_calls.proofs.Common.{AreBlocked, AtCall, CallName, CreatesProcess, Entry, Err, IsActed, IsAnsweredIn, IsConsistent, IsRefusedBy, IsToldIn}
-use Rattle.zl_calls.proofs.Common.{Library, List, MANAGE_PROCESS, MakesOne, None, Objects, Ok, Outcome, Parts, ProcessCreateDoes, Replies, Result, Site, Some}
-use Rattle.zl_calls.proofs.Common.{Status, [], ap, cpu_answered, create_refusal, gives_refused, handle_operands, looked_up, next_for, next_looks, none-some}
-use Rattle.zl_calls.proofs.Common.{one_value, parts, plain_refusal, process_create, process_value, refl, remove_all, same_Some, set, slice_get, slice_set}
-use Rattle.zl_calls.proofs.Common.{status_of, subst, suc, sym, taken_handles, told_by, wants_memory, with_new, world_value, zero, ℕ, ◌++◌, ◌∙◌, ◌∷◌, ◌≡◌}
+use Rattle.zl_calls.proofs.Common.{Library, List, MANAGE_PROCESS, MakesOne, None, Objects, Ok, Outcome, Parts, PlainCalls, Process, ProcessCreateDoes, Replies}
+use Rattle.zl_calls.proofs.Common.{Result, Site, Some, Status, [], ap, cpu_answered, create_refusal, gives_refused, handle_operands, is_process, lives}
+use Rattle.zl_calls.proofs.Common.{looked_up, next_for, next_looks, none-some, one_value, parts, plain_refusal, process_create, process_value, refl, remove_all}
+use Rattle.zl_calls.proofs.Common.{same_Some, set, slice_get, slice_set, status_of, subst, suc, sym, taken_handles, told_by, true, wants_memory, with_new}
+use Rattle.zl_calls.proofs.Common.{world_value, zero, ℕ, ◌++◌, ◌∙◌, ◌∷◌, ◌≡◌}
 use Rattle.zl_code.specs.declared.history.Outcome.TheVariants as outcome
 use Rattle.zl_code.specs.declared.history.TraceItem.TheVariants as item
 use Rattle.zl_rights.specs.declared.kind.Kind.TheVariants as kind
 use Rattle.zl_rights.specs.declared.status.Status.TheVariants as status
 use Rattle.zl_objects.specs.declared.object.Body.TheVariants as body
 use Rattle.zl_objects.specs.declared.object.Life.TheVariants as life
-use Rattle.zl_calls.specs.declared.process.Process.{Process}
 use Rattle.zl_calls.proofs.calls.Answered.{IsWrite, asking, same_world}
 use Rattle.zl_calls.proofs.processes.Departed.{settled_world}
 use Rattle.zl_calls.proofs.calls.DoneCalls.{IsCalled, IsDone, called_done}
 use Rattle.zl_calls.proofs.step.OwnCalls.{call_beside}
 use Rattle.zl_calls.proofs.step.FromConsistent.{IsFree, call_settles}
 use Rattle.zl_calls.proofs.step.Performing.{AtTurn, HasLeft, acted_so, is_caller, itself, key, left_as, left_with, ready, unblocked, write_of}
-use Rattle.zl_calls.proofs.Common.{PlainCalls, is_process, lives, true}
 use Rattle.zl_calls.proofs.calls.Owned.{IsOwn, IsOwnCall, own_call_of, own_refused}
 use Rattle.zl_calls.proofs.calls.Refused.{answers, refused_calls, refused_own}
 use Rattle.zl_calls.proofs.objects.Settled.{still_settles}

@@ -1,13 +1,10 @@
 -- What process_create does where memory is wanted, from what its parts do.
-use Rattle.zl_calls.proofs.Common.{Bool, Entry, Err, Handles, IsRefusedBy, IsTrue, Library, List, MANAGE_PROCESS, MakeDoes, Map, None, Objects, Ok, Option}
-use Rattle.zl_calls.proofs.Common.{ProcessCreateDoes, Result, Some, Status, [], ap, create_refusal, create_refusal_of, false, get_or, get_or_from_slice_get}
-use Rattle.zl_calls.proofs.Common.{is_dead_here, is_some, job_at, looked_up, needs_more, none-some, not, option_or, parts, room_refusal, slice_get, slice_set}
-use Rattle.zl_calls.proofs.Common.{subst, sym, then_some, true, wants_memory, ℕ, ◌∙◌, ◌∷◌, ◌≡◌}
+use Rattle.zl_calls.proofs.Common.{Body, Bool, Entry, Err, Handles, IsRefusedBy, IsTrue, Library, List, MANAGE_PROCESS, MakeDoes, Map, None, Objects, Ok}
+use Rattle.zl_calls.proofs.Common.{Option, Process, ProcessCreateDoes, Result, Some, Status, [], action_here, ap, create_refusal, create_refusal_of, false}
+use Rattle.zl_calls.proofs.Common.{get_or, get_or_from_slice_get, is_dead_here, is_some, job_at, looked_up, needs_more, none-some, not, option_or, parts}
+use Rattle.zl_calls.proofs.Common.{room_refusal, slice_get, slice_set, subst, sym, then_some, true, wants_memory, ℕ, ◌∙◌, ◌∷◌, ◌≡◌}
 use Rattle.zl_rights.specs.declared.status.Status.TheVariants as status
 use Rattle.zl_rights.specs.declared.kind.Kind.TheVariants as kind
-use Rattle.zl_objects.specs.declared.object.Body.{Body}
-use Rattle.zl_objects.specs.Jobs.{action_here}
-use Rattle.zl_calls.specs.declared.process.Process.{Process}
 use Rattle.zl_calls.proofs.lists.Updates.{set_read}
 
 -- what nothing refuses has room

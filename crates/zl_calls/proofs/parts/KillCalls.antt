@@ -1,26 +1,21 @@
 -- The call task_kill, from what it did among all processes to the relation of steps, up to where processes wake.
-use Rattle.zl_calls.proofs.Common.{AreBlocked, AreLeft, AtCall, Bool, CallName, ClosesAllEnded, ClosesEnded, Cpu, DESTROY, Ended, Entry, IsConsistent, IsNamed}
-use Rattle.zl_calls.proofs.Common.{IsTrue, KILLED, KillsTask, Library, List, ListsWithout, Map, None, Objects, Ok, Option, Outcome, Parts, Ready, Releases}
-use Rattle.zl_calls.proofs.Common.{Site, Some, Values, World, [], all_koids, ap, arith, cases_Bool, count_by, cpu_answered, each, effect, ended, ended_within}
-use Rattle.zl_calls.proofs.Common.{eq-eqb, eqb-true, false, false≢true, filter, get, get-each, get-update, gives_ok, handle_operands, has_handle, if◌then◌else◌}
-use Rattle.zl_calls.proofs.Common.{in_order-each, inl, inr, insert_all, is_blocked, is_blocking, is_over, is_sorted, is_sorted-update, is_within_here}
-use Rattle.zl_calls.proofs.Common.{kill_refusal, killing, listed, lives, lives_on, looked_up, map, may_choose, nat_cmp, nat_tests, new_handles, next_for}
-use Rattle.zl_calls.proofs.Common.{none-some, not, object_at, object_entry, object_killed, on_process, one_more, operands_fault, option_map, parts}
-use Rattle.zl_calls.proofs.Common.{plain_refusal, process_ended, process_entry, process_killed, process_value, refl, releases_then, remove_all, replied}
-use Rattle.zl_calls.proofs.Common.{result_err, same_Some, settles_waiting, slice_get, slice_set, state_passes, state_value, subst, suc, sum_by, sym}
-use Rattle.zl_calls.proofs.Common.{table_of, taken, taken_handles, task_kill, times, true, update, with_waiters, world_blocked, world_value, zero, ℕ, ℤ, ◌&&◌}
-use Rattle.zl_calls.proofs.Common.{◌+◌, ◌<◌, ◌==◌, ◌^◌, ◌∙◌, ◌∷◌, ◌≡◌, ◌⊎◌}
+use Rattle.zl_calls.proofs.Common.{ActsAndSettles, AreBlocked, AreLeft, AtCall, Bool, CallName, Calls, ClosesAllEnded, ClosesEnded, Cpu, DESTROY, Ended, Entry}
+use Rattle.zl_calls.proofs.Common.{Free, FreeBy, IsConsistent, IsNamed, IsSound, IsTrue, KILLED, KillsTask, Library, List, ListsWithout, Map, None, Objects, Ok}
+use Rattle.zl_calls.proofs.Common.{Option, Outcome, Parts, Process, ProcessValue, Ready, Releases, Settles, Site, Some, State, StateValue, Values, World, []}
+use Rattle.zl_calls.proofs.Common.{all_given, all_killed, all_koids, ap, arith, cases_Bool, coming, count_by, cpu_answered, each, effect, ended, ended_within}
+use Rattle.zl_calls.proofs.Common.{entered_free, eq-eqb, eqb-true, false, false≢true, filter, free_at, free_entry, get, get-each, get-update, gives_ok}
+use Rattle.zl_calls.proofs.Common.{handle_operands, has_handle, if◌then◌else◌, in_order-each, inl, inr, insert_all, is_blocked, is_blocking, is_left_at_port}
+use Rattle.zl_calls.proofs.Common.{is_over, is_sorted, is_sorted-update, is_within_here, kill_refusal, killing, listed, lives, lives_on, looked_up, map}
+use Rattle.zl_calls.proofs.Common.{may_choose, nat_cmp, nat_tests, new_free, new_handles, next_for, none-some, not, object_at, object_entry, object_killed}
+use Rattle.zl_calls.proofs.Common.{on_process, one_more, operands_fault, option_map, parts, plain_refusal, process_ended, process_entry, process_killed}
+use Rattle.zl_calls.proofs.Common.{process_value, refl, refusal, releases_then, remove_all, replied, result_err, same_Some, settles_waiting, slice_get}
+use Rattle.zl_calls.proofs.Common.{slice_set, state_passes, state_value, subst, suc, sum_by, sym, table_of, taken, taken_all, taken_handles, task_kill, times}
+use Rattle.zl_calls.proofs.Common.{true, update, with_waiters, world_blocked, world_value, zero, ℕ, ℤ, ◌&&◌, ◌+◌, ◌<◌, ◌==◌, ◌^◌, ◌∙◌, ◌∷◌, ◌≡◌, ◌⊎◌}
 use Rattle.zl_rights.specs.declared.kind.Kind.TheVariants as kind
 use Rattle.zl_rights.specs.declared.status.Status.TheVariants as status
-use Rattle.zl_code.proofs.Common.{Process as ProcessValue, State as StateValue}
-use Rattle.zl_code.specs.Calls.{Calls, ok_outcome}
-use Rattle.zl_code.specs.Refusals.{refusal}
+use Rattle.zl_code.specs.Calls.{ok_outcome}
 use Rattle.zl_code.specs.Jobs.{is_within, with_killed}
-use Rattle.zl_code.specs.Sound.{IsSound}
 use Rattle.zl_code.specs.declared.history.Outcome.TheVariants as outcome
-use Rattle.zl_objects.specs.Jobs.{all_killed}
-use Rattle.zl_calls.specs.declared.process.Process.{Process}
-use Rattle.zl_calls.specs.declared.process.State.{State}
 use Rattle.zl_calls.specs.declared.process.State.TheVariants as state
 use Rattle.zl_calls.specs.calls.Task.{none_left}
 use Rattle.zl_code.specs.declared.history.TraceItem.TheVariants as item
@@ -39,19 +34,13 @@ use Rattle.zl_calls.proofs.calls.Refused.{answers, is_found, first_looked_up}
 use Rattle.zl_calls.proofs.objects.Settled.{IsSettled, settled}
 use Rattle.zl_calls.proofs.parts.StartCalls.{writes_at}
 use Rattle.zl_calls.proofs.calls.Answered.{IsWrite, asking}
-use Rattle.zl_calls.proofs.Common.{ActsAndSettles, Settles}
 use Rattle.zl_calls.proofs.calls.Owned.{IsOwn, own_in}
 use Rattle.zl_calls.proofs.processes.Freed.{killed_free_by, own_free, set_free_by}
 use Rattle.zl_calls.proofs.step.OwnDone.{call_own, own_so}
 use Rattle.zl_calls.proofs.waits.LeftWaits.{left_same}
-use Rattle.zl_calls.specs.World.{free_entry}
-use Rattle.zl_code.specs.Own.{all_given, entered_free, free_at, taken_all}
-use Rattle.zl_rights.specs.Values.{Free, coming, new_free}
-use Rattle.zl_code.proofs.StepsWaiting.{is_left as is_left_at_port}
 use Rattle.zl_calls.proofs.waking.Woken.{update_fixed}
 use Rattle.zl_calls.proofs.lists.Positions.{times-filter}
 use Rattle.zl_calls.proofs.parts.KillParts.{ends_pid}
-use Rattle.zl_calls.specs.Own.{FreeBy}
 
 -- ---- the answer
 

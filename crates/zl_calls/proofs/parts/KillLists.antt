@@ -1,14 +1,12 @@
 -- A kill goes over the processes that were listed alone: what it makes of these is what it makes of all.
 use Rattle.zl_calls.proofs.Common.{AreClosed, AreClosedBut, Bool, ClosesAllEnded, ClosesEnded, Drained, Entry, IfNone, IsClosed, IsTrue, List, Map, None}
-use Rattle.zl_calls.proofs.Common.{Objects, Option, Some, StandsBefore, [], ap, arith, below_all, below_parts, cases_Bool, cases_lt, ended_among, ended_if}
-use Rattle.zl_calls.proofs.Common.{ended_within, eq-eqb, eqb-true, false, false≢true, get, get_or, get_or_from_slice_get, if◌then◌else◌, inl, inr, is_over}
-use Rattle.zl_calls.proofs.Common.{is_sorted, is_within_here, length, list_any-append, lives, lives_on, map, nat_cmp, nat_tests, none-some, position}
-use Rattle.zl_calls.proofs.Common.{process_entry, process_value, refl, same_Some, set, slice_get, slice_get-get_or, sorted_parts, state_value, subst, suc, sym}
-use Rattle.zl_calls.proofs.Common.{true, zero, ℕ, ◌&&◌, ◌++◌, ◌+◌, ◌-◌, ◌<◌, ◌==◌, ◌||◌, ◌∙◌, ◌∷◌, ◌≡◌, ◌≤◌, ◌⊎◌}
+use Rattle.zl_calls.proofs.Common.{Objects, Option, Process, Some, StandsBefore, [], ap, arith, below_all, below_parts, cases_Bool, cases_lt, ended_among}
+use Rattle.zl_calls.proofs.Common.{ended_if, ended_within, eq-eqb, eqb-true, false, false≢true, get, get_or, get_or_from_slice_get, if◌then◌else◌, inl, inr}
+use Rattle.zl_calls.proofs.Common.{is_over, is_sorted, is_within_here, length, list_any-append, lives, lives_on, map, nat_cmp, nat_tests, none-some}
+use Rattle.zl_calls.proofs.Common.{none_drained, position, process_entry, process_value, refl, same_Some, set, slice_get, slice_get-get_or, sorted_parts}
+use Rattle.zl_calls.proofs.Common.{state_value, subst, suc, sym, true, zero, ℕ, ◌&&◌, ◌++◌, ◌+◌, ◌-◌, ◌<◌, ◌==◌, ◌||◌, ◌∙◌, ◌∷◌, ◌≡◌, ◌≤◌, ◌⊎◌}
 use Rattle.std.specs.List.Sorted.{IsNonDecreasing}
 use Rattle.zl_objects.specs.Below.{HasTask, is_one_of}
-use Rattle.zl_calls.specs.calls.Process.{none_left as none_drained}
-use Rattle.zl_calls.specs.declared.process.Process.{Process}
 use Rattle.zl_calls.proofs.lists.Positions.{IsFirst, first_at}
 use Rattle.zl_calls.proofs.lists.Updates.{set_same}
 use Rattle.zl_calls.proofs.processes.Idle.{get_placed}

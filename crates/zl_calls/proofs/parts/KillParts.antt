@@ -1,14 +1,13 @@
 -- What a kill makes of the list of processes: koids stay, and each process that is over closes its handles in turn.
 use Rattle.zl_calls.proofs.Common.{Bool, ClosesAllEnded, ClosesEnded, DESTROY, Entry, IsCallerStill, KeepsListed, LeavesListed, List, Map, None, Objects, Ok}
-use Rattle.zl_calls.proofs.Common.{Option, Releases, Result, Some, Status, TaskKillDoes, [], all_koids, ap, arith, drop, each, ended_if, ended_within, false}
-use Rattle.zl_calls.proofs.Common.{get, get-each, get_or, get_or_from_slice_get, has_key, is_blocked, is_over, is_some, is_within_here, killed_if, killing}
-use Rattle.zl_calls.proofs.Common.{length, length-map, lives_on, looked_up, map, none-some, one_more, option_map, parts, process_entry, refl, same_Some, set}
-use Rattle.zl_calls.proofs.Common.{slice_get, slice_get-map, state_passes, subst, suc, sym, take, true, zero, ℕ, ◌++◌, ◌+◌, ◌<◌, ◌∙◌, ◌∷◌, ◌≡◌, ◌≤◌}
-use Rattle.zl_calls.specs.declared.process.Process.{Process}
+use Rattle.zl_calls.proofs.Common.{Option, Process, Releases, Result, Some, Status, TaskKillDoes, [], all_killed, all_koids, ap, arith, drop, each, ended_if}
+use Rattle.zl_calls.proofs.Common.{ended_within, false, get, get-each, get_or, get_or_from_slice_get, has_key, is_blocked, is_over, is_some, is_within_here}
+use Rattle.zl_calls.proofs.Common.{killed_if, killing, length, length-map, lives_on, looked_up, map, none-some, one_more, option_map, parts, process_entry}
+use Rattle.zl_calls.proofs.Common.{refl, same_Some, set, slice_get, slice_get-map, state_passes, subst, suc, sym, take, true, zero, ℕ, ◌++◌, ◌+◌, ◌<◌, ◌∙◌, ◌∷◌}
+use Rattle.zl_calls.proofs.Common.{◌≡◌, ◌≤◌}
 use Rattle.zl_calls.specs.calls.Task.{none_left}
 use Rattle.zl_calls.proofs.lists.FilterInPlace.{drop_here}
 use Rattle.zl_rights.specs.declared.kind.Kind.TheVariants as kind
-use Rattle.zl_objects.specs.Jobs.{all_killed}
 use Rattle.zl_calls.proofs.waits.WaitsLost.{listed_gone}
 use Rattle.zl_code.proofs.Common.{drop_all, filter}
 

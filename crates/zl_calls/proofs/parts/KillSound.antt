@@ -1,19 +1,15 @@
 -- A kill: the handles of all who end count still and are in no table, and the invariant holds but for what keeps the objects.
-use Rattle.zl_calls.proofs.Common.{Agrees, AreKeptBut, AreNamed, AreSound, Bool, ClosesAllEnded, ClosesEnded, Cpu, Ended, Entry, Gone, IsConsistent, IsNamed}
-use Rattle.zl_calls.proofs.Common.{IsTable, IsTrue, KILLED, Life, List, Map, None, Objects, Option, Releases, Some, [], all_koids, and_from, ap, arith}
-use Rattle.zl_calls.proofs.Common.{below_all, body_value, cases_Bool, cond, count_by, each, ended_if, ended_within, eq-eqb, false, false≢true, get, get-each}
-use Rattle.zl_calls.proofs.Common.{handles_to, has_ended, has_key, if◌then◌else◌, in_order-each, inl, inr, is_in_job, is_job_at, is_job_here, is_job_in}
-use Rattle.zl_calls.proofs.Common.{is_over, is_process, is_some, is_sorted, is_within_here, killed_body, killed_if, killing, kind_of, list_any, lives, lives_on}
-use Rattle.zl_calls.proofs.Common.{map, nat_cmp, nat_tests, none-some, not, object_entry, one_more, option_map, or_left, or_right, process_entry}
-use Rattle.zl_calls.proofs.Common.{process_killed, process_value, queued_to, refl, releases_then, runs, same_Some, same_in_job, sorted_parts, state_passes}
-use Rattle.zl_calls.proofs.Common.{subst, suc, sum_by, sum_by-append, sum_by-cons, sym, true, world_value, ℕ, ⊤, ◌++◌, ◌+◌, ◌<◌, ◌==◌, ◌||◌, ◌∙◌, ◌∷◌, ◌≡◌}
-use Rattle.zl_code.proofs.Common.{Process as ProcessValue, State}
-use Rattle.zl_objects.specs.declared.object.Body.{Body}
+use Rattle.zl_calls.proofs.Common.{Agrees, AreKeptBut, AreNamed, AreSound, Body, Bool, ClosesAllEnded, ClosesEnded, Cpu, Ended, Entry, Gone, IsConsistent}
+use Rattle.zl_calls.proofs.Common.{IsNamed, IsTable, IsTrue, KILLED, Life, List, Map, None, Object, Objects, Option, Process, ProcessValue, Releases, Some}
+use Rattle.zl_calls.proofs.Common.{StateValue, [], all_killed, all_koids, and_from, ap, arith, below_all, body_value, cases_Bool, cond, count_by, each}
+use Rattle.zl_calls.proofs.Common.{ended_if, ended_within, eq-eqb, false, false≢true, get, get-each, handles_to, has_ended, has_key, if◌then◌else◌}
+use Rattle.zl_calls.proofs.Common.{in_order-each, inl, inr, is_in_job, is_job_at, is_job_here, is_job_in, is_over, is_process, is_some, is_sorted}
+use Rattle.zl_calls.proofs.Common.{is_within_here, killed_body, killed_if, killing, kind_of, list_any, lives, lives_on, map, nat_cmp, nat_tests, none-some, not}
+use Rattle.zl_calls.proofs.Common.{object_entry, one_more, option_map, or_left, or_right, process_entry, process_killed, process_value, queue_held, queued_to}
+use Rattle.zl_calls.proofs.Common.{refl, releases_then, runs, same_Some, same_in_job, sorted_parts, state_passes, subst, suc, sum_by, sum_by-append}
+use Rattle.zl_calls.proofs.Common.{sum_by-cons, sym, true, world_value, ℕ, ⊤, ◌++◌, ◌+◌, ◌<◌, ◌==◌, ◌||◌, ◌∙◌, ◌∷◌, ◌≡◌}
 use Rattle.zl_objects.specs.declared.object.Body.TheVariants as body
-use Rattle.zl_objects.specs.declared.object.Object.{Object}
-use Rattle.zl_objects.specs.Jobs.{all_killed}
-use Rattle.zl_objects.specs.Objects.{is_alive, queue_held}
-use Rattle.zl_calls.specs.declared.process.Process.{Process}
+use Rattle.zl_objects.specs.Objects.{is_alive}
 use Rattle.zl_calls.proofs.lists.Updates.{found_behind}
 use Rattle.zl_calls.specs.calls.Task.{none_left}
 use Rattle.zl_calls.proofs.objects.SameBodies.{still_named}
@@ -318,7 +314,7 @@ module _ (ps ps3 : List Process) (r : Objects) (consistent : IsConsistent ps r) 
       by_life false = h
 
   -- the state is as it was, or killed
-  passes_after : (test : State → Bool) (k : ℕ)
+  passes_after : (test : StateValue → Bool) (k : ℕ)
       → state_passes test (get (map process_entry ps3) k) ≡ state_passes test (option_map (process_killed (within k)) (get (map process_entry ps) k))
   passes_after test k = ap (state_passes test) (got k) ∙ by_process (get (map process_entry ps) k)
     where
@@ -347,14 +343,14 @@ module _ (ps ps3 : List Process) (r : Objects) (consistent : IsConsistent ps r) 
   stops None l living over = absurd (neither (is_alive l) living over)
   stops (Some q) l living over = by_state q.state refl
     where
-      by_state : (s : State) → q.state ≡ s → (runs (if lives s then record q { state = Ended KILLED; handles = []; last = None } else q).state ≡ false)
+      by_state : (s : StateValue) → q.state ≡ s → (runs (if lives s then record q { state = Ended KILLED; handles = []; last = None } else q).state ≡ false)
           × (lives (if lives s then record q { state = Ended KILLED; handles = []; last = None } else q).state ≡ false)
           × (has_ended (if lives s then record q { state = Ended KILLED; handles = []; last = None } else q).state ≡ true)
       by_state (Ended code) at = (ap runs at, ap lives at, ap has_ended at)
       by_state Gone at = absurd (neither (is_alive l) (living ∙ ap lives at) (over ∙ ap has_ended at))
       by_state _ at = (refl, refl, refl)
 
-  unchanged_by : (test : State → Bool) (k : ℕ) → within k ≡ false
+  unchanged_by : (test : StateValue → Bool) (k : ℕ) → within k ≡ false
       → is_process (world_value ps3 (killing r t)) test k ≡ is_process (world_value ps r) test k
   unfolding is_process
   unchanged_by test k out = passes_after test k ∙ rw out (by_process (get (map process_entry ps) k))
@@ -363,7 +359,7 @@ module _ (ps ps3 : List Process) (r : Objects) (consistent : IsConsistent ps r) 
       by_process None = refl
       by_process (Some q) = refl
 
-  changed_by : (test : State → Bool) (k : ℕ) → within k ≡ true
+  changed_by : (test : StateValue → Bool) (k : ℕ) → within k ≡ true
       → is_process (world_value ps3 (killing r t)) test k ≡ state_passes test (option_map (process_killed true) (get (map process_entry ps) k))
   unfolding is_process
   changed_by test k inside = passes_after test k ∙ rw inside refl

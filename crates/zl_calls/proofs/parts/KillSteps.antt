@@ -1,16 +1,13 @@
 -- The call task_kill as a step: refused, done, or with the end of its caller.
-use Rattle.zl_calls.proofs.Common.{AtCall, CallName, Err, IsAnsweredIn, IsConsistent, IsRefusedBy, IsToldIn, KillsNamed, Library, List, Objects, Ok, Outcome}
-use Rattle.zl_calls.proofs.Common.{Parts, Ready, Result, Site, Status, TaskKillDoes, [], ap, cpu_answered, false, gives_refused, handle_operands, is_blocked}
-use Rattle.zl_calls.proofs.Common.{kill_refusal, next_for, no_value, parts, plain_refusal, process_value, refl, remove_all, set, slice_get, slice_set}
-use Rattle.zl_calls.proofs.Common.{state_value, status_of, subst, sym, taken_handles, task_kill, told_by, wants_nothing, world_blocked, world_value, ℕ, ℤ, ⊤}
-use Rattle.zl_calls.proofs.Common.{◌∙◌, ◌≡◌}
+use Rattle.zl_calls.proofs.Common.{AtCall, CallName, Calls, Err, IsAnsweredIn, IsConsistent, IsRefusedBy, IsToldIn, KillsNamed, Library, List, Objects, Ok}
+use Rattle.zl_calls.proofs.Common.{Outcome, Parts, Process, Ready, Result, Site, Status, TaskKillDoes, [], ap, cpu_answered, false, gives_refused}
+use Rattle.zl_calls.proofs.Common.{handle_operands, is_blocked, is_process, kill_refusal, next_for, no_value, parts, plain_refusal, process_value, refl}
+use Rattle.zl_calls.proofs.Common.{refusal, remove_all, set, slice_get, slice_set, state_value, status_of, subst, sym, taken_handles, task_kill, told_by}
+use Rattle.zl_calls.proofs.Common.{wants_nothing, world_blocked, world_value, ℕ, ℤ, ⊤, ◌∙◌, ◌≡◌}
 use Rattle.zl_rights.specs.declared.status.Status.TheVariants as status
 use Rattle.zl_code.specs.declared.history.Outcome.TheVariants as outcome
 use Rattle.zl_code.specs.declared.history.TraceItem.TheVariants as item
-use Rattle.zl_code.specs.Calls.{Calls}
-use Rattle.zl_code.specs.Refusals.{refusal}
 use Rattle.zl_calls.specs.Reaching.{EndsCaller}
-use Rattle.zl_calls.specs.declared.process.Process.{Process}
 use Rattle.zl_calls.specs.declared.process.State.TheVariants as state
 use Rattle.zl_calls.proofs.parts.KillCalls.{dies_so, kill_refused, leaves_so, lives_so}
 use Rattle.zl_calls.proofs.step.FromConsistent.{IsFree, freely_so}
@@ -19,7 +16,6 @@ use Rattle.zl_calls.proofs.calls.AmongWaits.{ends_among}
 use Rattle.zl_calls.proofs.waking.BlockedLists.{still_blocked}
 use Rattle.zl_calls.proofs.objects.Settled.{still_settles}
 use Rattle.zl_calls.proofs.step.Performing.{AtTurn, HasLeft, here, is_caller, itself, key, left_as, ready, unblocked, write_of}
-use Rattle.zl_calls.proofs.Common.{is_process}
 use Rattle.zl_calls.proofs.calls.Owned.{IsOwn, own_refused}
 use Rattle.zl_calls.proofs.calls.Refused.{refused_calls, refused_own}
 use Rattle.zl_calls.proofs.processes.Written.{refusal_keeps}

@@ -1,12 +1,11 @@
 -- What a kill leaves of registered waits: none of a process that it ended, and those of the others as they were.
 use Rattle.zl_calls.proofs.Common.{All, All-head, All-tail, Bool, ClosesAllEnded, ClosesEnded, Contains, Entry, IsTrue, KeepsWithout, KillsTask, List, Map}
-use Rattle.zl_calls.proofs.Common.{Objects, Option, Parts, Some, Wait, [], ap, cases_Bool, ended_if, ended_within, eqb-true, false, false≢true, get, get_or}
-use Rattle.zl_calls.proofs.Common.{has_handle, if◌then◌else◌, inl, inr, is_over, is_sorted, is_within_here, lives, lives_on, map, nat_cmp, none-some, not}
-use Rattle.zl_calls.proofs.Common.{one_more, parts, process_entry, process_value, refl, same_Some, slice_get-get_or, state_passes, state_value, subst, sym}
-use Rattle.zl_calls.proofs.Common.{true, ℕ, ◌&&◌, ◌==◌, ◌∙◌, ◌∷◌, ◌≡◌}
-use Rattle.zl_code.proofs.Common.{Process as ProcessValue, not-true}
+use Rattle.zl_calls.proofs.Common.{Objects, Option, Parts, Process, ProcessValue, Some, Wait, [], ap, cases_Bool, ended_if, ended_within, eqb-true, false}
+use Rattle.zl_calls.proofs.Common.{false≢true, get, get_or, has_handle, if◌then◌else◌, inl, inr, is_over, is_sorted, is_within_here, lives, lives_on, map}
+use Rattle.zl_calls.proofs.Common.{nat_cmp, none-some, not, one_more, parts, process_entry, process_value, refl, same_Some, slice_get-get_or, state_passes}
+use Rattle.zl_calls.proofs.Common.{state_value, subst, sym, true, ℕ, ◌&&◌, ◌==◌, ◌∙◌, ◌∷◌, ◌≡◌}
+use Rattle.zl_code.proofs.Common.{not-true}
 use Rattle.zl_calls.specs.calls.Task.{none_left}
-use Rattle.zl_calls.specs.declared.process.Process.{Process}
 use Rattle.zl_calls.proofs.processes.InOrder.{all_in_order}
 use Rattle.zl_calls.proofs.parts.KillParts.{ended_pid}
 use Rattle.zl_calls.proofs.parts.StartCalls.{writes_at}

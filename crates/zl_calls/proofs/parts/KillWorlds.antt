@@ -1,17 +1,14 @@
 -- What a kill makes of the world: the definitions see the same of its processes, objects and list of the blocked.
-use Rattle.zl_calls.proofs.Common.{AreBlocked, AreClosed, Blocked, Bool, ClosesAllEnded, ClosesEnded, Ended, IsClosed, KILLED, List, Map, None, Objects, Option}
-use Rattle.zl_calls.proofs.Common.{Some, [], ap, arith, body_in, body_value, cases_Bool, each, ended_if, ended_within, eq-eqb, false, false≢true, filter, get}
-use Rattle.zl_calls.proofs.Common.{get-each, get_seen, if◌then◌else◌, inl, inr, is_blocked, is_over, is_within_here, killed_body, killed_if, length, lives}
-use Rattle.zl_calls.proofs.Common.{lives_on, map, not, object_entry, object_killed, object_value, one_more, option_map, process_entry, process_killed}
-use Rattle.zl_calls.proofs.Common.{process_value, refl, state_passes, state_value, suc, sym, true, zero, ℕ, ◌<◌, ◌==◌, ◌||◌, ◌∙◌, ◌∷◌, ◌≡◌}
-use Rattle.zl_code.proofs.Common.{Process as ProcessValue, Object as ObjectValue, State}
+use Rattle.zl_calls.proofs.Common.{AreBlocked, AreClosed, Blocked, Body, Bool, ClosesAllEnded, ClosesEnded, Ended, IsClosed, KILLED, List, Map, None, Object}
+use Rattle.zl_calls.proofs.Common.{ObjectValue, Objects, Option, Process, ProcessValue, Some, StateValue, [], all_killed, ap, arith, body_in, body_value}
+use Rattle.zl_calls.proofs.Common.{cases_Bool, each, ended_if, ended_within, eq-eqb, false, false≢true, filter, get, get-each, get_seen, if◌then◌else◌, inl}
+use Rattle.zl_calls.proofs.Common.{inr, is_blocked, is_over, is_within_here, killed_body, killed_if, length, lives, lives_on, map, not, object_entry}
+use Rattle.zl_calls.proofs.Common.{object_killed, object_value, one_more, option_map, process_entry, process_killed, process_value, refl, state_passes}
+use Rattle.zl_calls.proofs.Common.{state_value, suc, sym, true, zero, ℕ, ◌<◌, ◌==◌, ◌||◌, ◌∙◌, ◌∷◌, ◌≡◌}
 use Rattle.zl_code.specs.Jobs.{body_killed, is_under_by, is_within}
 use Rattle.zl_code.specs.Tests.{parent_in}
-use Rattle.zl_objects.specs.declared.object.Body.{Body}
 use Rattle.zl_objects.specs.declared.object.Body.TheVariants as body
-use Rattle.zl_objects.specs.declared.object.Object.{Object}
-use Rattle.zl_objects.specs.Jobs.{all_killed, is_below_by, parent_at, parent_held}
-use Rattle.zl_calls.specs.declared.process.Process.{Process}
+use Rattle.zl_objects.specs.Jobs.{is_below_by, parent_at, parent_held}
 use Rattle.zl_calls.specs.calls.Task.{none_left}
 use Rattle.zl_calls.proofs.waking.BlockedLists.{blocked_there}
 
@@ -79,7 +76,7 @@ module _ (ps : List Process) (r : Objects) (blocked : List ℕ) where
           ∙ (ap (state_passes is_blocked) (get-each (map process_entry ps) (λ j. process_killed (within j)) k)
           ∙ by_process (get (map process_entry ps) k) (within k) was)
         where
-          by_state : (q : ProcessValue) (s : State) → q.state ≡ s → is_blocked s ≡ true
+          by_state : (q : ProcessValue) (s : StateValue) → q.state ≡ s → is_blocked s ≡ true
               → is_blocked (if lives s then record q { state = Ended KILLED; handles = []; last = None } else q).state ≡ false
           by_state q (Blocked awaited ds) at h = refl
           by_state q _ at h = absurd (false≢true h)

@@ -1,14 +1,11 @@
 -- The calls that reach other processes, from what they do to how they are answered.
 use Rattle.zl_calls.proofs.Common.{Bool, CreatesProcess, EndsOrAnswers, Err, HasBegun, IsAnsweredIn, IsCallerStill, Library, List, None, Objects, Ok, Option}
-use Rattle.zl_calls.proofs.Common.{Outcome, Parts, ProcessCreateDoes, ProcessStartDoes, Reaches, Result, Site, Some, Status, TaskKillDoes, [], answered_in, ap}
-use Rattle.zl_calls.proofs.Common.{cpu_answered, ending_of, false, false≢true, get_or, is_created, is_ready, kills, kills_itself, length, no_value, none-some}
-use Rattle.zl_calls.proofs.Common.{one_value, parts, process_create, process_start, refl, register_set, same_Some, site, slice_get, slice_get_within, slice_set}
-use Rattle.zl_calls.proofs.Common.{starts, state_value, status_of, subst, suc, sym, task_kill, told_by, told_unless_over, true, values_of, zero, ℕ, ℤ, ⊤, ◌++◌}
-use Rattle.zl_calls.proofs.Common.{◌<◌, ◌^◌, ◌∙◌, ◌∷◌, ◌≡◌}
+use Rattle.zl_calls.proofs.Common.{Outcome, Parts, Process, ProcessCreateDoes, ProcessStartDoes, Reaches, Result, Site, Some, State, Status, TaskKillDoes, []}
+use Rattle.zl_calls.proofs.Common.{answered_in, ap, cpu_answered, creates_process, ending_of, false, false≢true, get_or, is_created, is_ready, kills}
+use Rattle.zl_calls.proofs.Common.{kills_itself, length, no_value, none-some, one_value, parts, process_create, process_start, refl, register_set, same_Some}
+use Rattle.zl_calls.proofs.Common.{site, slice_get, slice_get_within, slice_set, starts, state_value, status_of, subst, suc, sym, task_kill, told_by}
+use Rattle.zl_calls.proofs.Common.{told_unless_over, true, values_of, zero, ℕ, ℤ, ⊤, ◌++◌, ◌<◌, ◌^◌, ◌∙◌, ◌∷◌, ◌≡◌}
 use Rattle.zl_code.specs.declared.history.Outcome.TheVariants as outcome
-use Rattle.zl_calls.specs.Reaching.{creates_process}
-use Rattle.zl_calls.specs.declared.process.Process.{Process}
-use Rattle.zl_calls.specs.declared.process.State.{State}
 use Rattle.zl_calls.specs.declared.process.State.TheVariants as state
 use Rattle.zl_calls.proofs.parts.StartParts.{get_set, read_at}
 

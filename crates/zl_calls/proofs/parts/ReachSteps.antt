@@ -1,10 +1,9 @@
 -- A call that reaches other processes: from what it did among them to a step, up to where processes wake.
-use Rattle.zl_calls.proofs.Common.{AtCall, CallName, IsAnsweredIn, Library, List, None, Objects, Outcome, Parts, ProcessCreateDoes, ProcessStartDoes, Reaches}
-use Rattle.zl_calls.proofs.Common.{Request, Site, TaskKillDoes, ap, kills, kills_itself, next_for, no_value, one_value, parts, process_create, process_start}
-use Rattle.zl_calls.proofs.Common.{process_value, refl, starts, subst, sym, task_kill, told_by, verdict_on, world_blocked, world_value, ℕ, ℤ, ◌∙◌, ◌≡◌}
+use Rattle.zl_calls.proofs.Common.{AtCall, CallName, IsAnsweredIn, Library, List, None, Objects, Outcome, Parts, Process, ProcessCreateDoes, ProcessStartDoes}
+use Rattle.zl_calls.proofs.Common.{Reaches, Request, Site, TaskKillDoes, ap, creates_process, kills, kills_itself, next_for, no_value, one_value, parts}
+use Rattle.zl_calls.proofs.Common.{process_create, process_start, process_value, refl, starts, subst, sym, task_kill, told_by, verdict_on, world_blocked}
+use Rattle.zl_calls.proofs.Common.{world_value, ℕ, ℤ, ◌∙◌, ◌≡◌}
 use Rattle.zl_code.specs.declared.history.TraceItem.TheVariants as item
-use Rattle.zl_calls.specs.Reaching.{creates_process}
-use Rattle.zl_calls.specs.declared.process.Process.{Process}
 use Rattle.zl_calls.specs.declared.process.State.TheVariants as state
 use Rattle.zl_calls.proofs.policy.Freedom.{is_free}
 use Rattle.zl_calls.proofs.step.FromConsistent.{IsFree}

@@ -1,22 +1,18 @@
 -- The call process_start, from all processes and the objects to the relation of calls.
-use Rattle.zl_rights.specs.Values.{given_back}
-use Rattle.zl_calls.proofs.Common.{Bool, Entry, Inserts, IsTrue, Library, List, Map, None, Objects, Ok, Option, PlainCalls, Ready, Site, Some, TRANSFER, Values}
-use Rattle.zl_calls.proofs.Common.{WRITE, World, [], and_from, answer_if, ap, arith, below_all, below_parts, cases_Bool, child_refusal, cpu_answered, cpu_given}
-use Rattle.zl_calls.proofs.Common.{effect, eq-eqb, eqb-true, false, first_some, get, get-update, gives_ok, handle_operands, has_key, if◌then◌else◌, inl, inr}
-use Rattle.zl_calls.proofs.Common.{insert_all, is_created, is_process, is_sorted, listed, looked_up, map, may_choose, may_get, misfits, nat_cmp, ne_eqb}
-use Rattle.zl_calls.proofs.Common.{new_handles, none-some, not, object_entry, object_value, on_process, operands_fault, option_map, plain_refusal, process_at}
-use Rattle.zl_calls.proofs.Common.{process_entry, process_start, process_value, process_with, process_without, refl, remove_all, replied, same_Some}
-use Rattle.zl_calls.proofs.Common.{slice_get, slice_set, sorted_parts, start_refusal, started, started_with, starting, state_passes, state_value, subst, suc}
-use Rattle.zl_calls.proofs.Common.{sym, table_of, taken, taken_handles, true, update, without, without_handle, world_value, zero, ℕ, ◌<◌, ◌==◌, ◌∙◌, ◌∷◌, ◌≡◌}
-use Rattle.zl_code.proofs.Common.{Process as ProcessValue}
+use Rattle.zl_calls.proofs.Common.{Bool, Entry, Inserts, IsTrue, Library, List, Map, None, Object, Objects, Ok, Option, PlainCalls, Process, ProcessValue}
+use Rattle.zl_calls.proofs.Common.{Ready, Site, Some, TRANSFER, Values, WRITE, World, [], and_from, answer_if, ap, arith, below_all, below_parts, cases_Bool}
+use Rattle.zl_calls.proofs.Common.{child_refusal, cpu_answered, cpu_given, effect, eq-eqb, eqb-true, false, first_some, free_of, get, get-update, given_back}
+use Rattle.zl_calls.proofs.Common.{gives_ok, handle_operands, has_key, if◌then◌else◌, inl, inr, insert_all, is_created, is_process, is_sorted, listed}
+use Rattle.zl_calls.proofs.Common.{looked_up, map, may_choose, may_get, misfits, nat_cmp, ne_eqb, new_handles, none-some, not, object_entry, object_value}
+use Rattle.zl_calls.proofs.Common.{on_process, operands_fault, option_map, plain_refusal, process_at, process_entry, process_start, process_value, process_with}
+use Rattle.zl_calls.proofs.Common.{process_without, refl, remove_all, replied, same_Some, slice_get, slice_set, sorted_parts, start_refusal, started}
+use Rattle.zl_calls.proofs.Common.{started_with, starting, state_passes, state_value, subst, suc, sym, table_of, taken, taken_handles, true, update, without}
+use Rattle.zl_calls.proofs.Common.{without_handle, world_value, zero, ℕ, ◌<◌, ◌==◌, ◌∙◌, ◌∷◌, ◌≡◌}
 use Rattle.zl_rights.specs.declared.kind.Kind.TheVariants as kind
 use Rattle.zl_rights.specs.declared.status.Status.TheVariants as status
 use Rattle.zl_code.specs.Starting.{program_in}
 use Rattle.zl_code.specs.declared.history.Outcome.TheVariants as outcome
-use Rattle.zl_objects.specs.declared.object.Object.{Object}
 use Rattle.zl_calls.proofs.processes.Freed.{entry_there}
-use Rattle.zl_calls.specs.World.{free_of}
-use Rattle.zl_calls.specs.declared.process.Process.{Process}
 use Rattle.zl_calls.specs.declared.process.State.TheVariants as state
 use Rattle.zl_calls.proofs.calls.Answered.{IsWrite, asking, may_get_inserted}
 use Rattle.zl_calls.proofs.calls.Refused.{answers, is_found, both_looked_up, two_tests}

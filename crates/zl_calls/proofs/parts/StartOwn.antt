@@ -1,17 +1,10 @@
 -- Which value the handle of a process that starts gets: that which its table offers.
-use Rattle.zl_calls.proofs.Common.{Handles, false≢true, ne_eqb}
-use Rattle.zl_calls.proofs.Common.{Entry, Inserts, List, Map, Objects, Ok, Ready, Some, TRANSFER, WRITE, [], ap, cases_Bool, eq-eqb}
-use Rattle.zl_calls.proofs.Common.{eqb-true, false}
-use Rattle.zl_calls.proofs.Common.{get, get-update, inl, inr, is_process, lives, looked_up, map, process_start, refl}
-use Rattle.zl_calls.proofs.Common.{state_value, subst, sym, true, without_handle, world_value, ℕ, ◌==◌, ◌∙◌, ◌∷◌, ◌≡◌, handle_operands}
-use Rattle.zl_calls.proofs.Common.{taken_handles}
-use Rattle.zl_code.proofs.Common.{Values}
-use Rattle.zl_code.specs.CallTable.{new_handles}
-use Rattle.zl_code.specs.Own.{entered_free, free_at, taken_all}
-use Rattle.zl_rights.specs.Values.{Free, coming, taken}
+use Rattle.zl_calls.proofs.Common.{Entry, Free, Handles, Inserts, List, Map, Objects, Ok, Process, Ready, Some, TRANSFER, Values, WRITE, [], ap, cases_Bool}
+use Rattle.zl_calls.proofs.Common.{coming, entered_free, eq-eqb, eqb-true, false, false≢true, free_at, free_entry, free_of, get, get-update, handle_operands}
+use Rattle.zl_calls.proofs.Common.{inl, inr, is_process, lives, looked_up, map, ne_eqb, new_handles, process_start, refl, state_value, subst, sym, taken_all}
+use Rattle.zl_calls.proofs.Common.{taken_handles, true, without_handle, world_value, ℕ, ◌==◌, ◌∙◌, ◌∷◌, ◌≡◌}
+use Rattle.zl_rights.specs.Values.{taken}
 use Rattle.zl_rights.specs.declared.kind.Kind.TheVariants as kind
-use Rattle.zl_calls.specs.World.{free_entry, free_of}
-use Rattle.zl_calls.specs.declared.process.Process.{Process}
 use Rattle.zl_calls.proofs.calls.Answered.{IsWrite, table_is}
 use Rattle.zl_calls.proofs.calls.Owned.{IsOwn, mine, own_in}
 use Rattle.zl_calls.proofs.calls.Refused.{is_found}

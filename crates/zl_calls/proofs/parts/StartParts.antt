@@ -1,17 +1,14 @@
 -- The process that a call starts: how it is found by its koid, and what becomes of all processes.
 use Rattle.zl_calls.proofs.Common.{Bool, ClosesEach, Enters, Entry, Err, Handles, Inserts, IsCallerStill, IsCreatedAt, IsFound, IsRefusedBy, Library, List}
-use Rattle.zl_calls.proofs.Common.{None, Objects, Ok, Option, ProcessStartDoes, Some, Status, [], ap, arith, child_refusal, cpu_given, eqb-true, false}
-use Rattle.zl_calls.proofs.Common.{false≢true, find, find_at, get_or, get_or_from_slice_get, is_created, is_ready, length, length-set, misfits, nat_tests}
-use Rattle.zl_calls.proofs.Common.{none-some, parts, position, position-Some, position_or_len, process_at, refl, same_Some, slice_get, slice_get-get_or}
-use Rattle.zl_calls.proofs.Common.{slice_get_within, slice_set, start_refusal, starting, state_value, subst, suc, sym, true, wants_memory, without_handle, zero}
-use Rattle.zl_calls.proofs.Common.{ℕ, ◌<◌, ◌==◌, ◌∙◌, ◌∷◌, ◌≡◌, ◌≢◌}
+use Rattle.zl_calls.proofs.Common.{None, Objects, Ok, Option, Process, ProcessStartDoes, Some, State, Status, [], ap, arith, child_refusal, cpu_given, eqb-true}
+use Rattle.zl_calls.proofs.Common.{false, false≢true, find, find_at, get_or, get_or_from_slice_get, get_put_other, is_created, is_ready, length, length-set}
+use Rattle.zl_calls.proofs.Common.{misfits, nat_tests, none-some, parts, position, position-Some, position_or_len, process_at, refl, same_Some, slice_get}
+use Rattle.zl_calls.proofs.Common.{slice_get-get_or, slice_get_within, slice_set, start_refusal, starting, state_value, subst, suc, sym, true, wants_memory}
+use Rattle.zl_calls.proofs.Common.{without_handle, zero, ℕ, ◌<◌, ◌==◌, ◌∙◌, ◌∷◌, ◌≡◌, ◌≢◌}
 use Rattle.zl_signals.proofs.Takes.{none_found}
 use Rattle.zl_rights.specs.declared.status.Status.TheVariants as status
-use Rattle.zl_calls.specs.declared.process.State.{State}
 use Rattle.zl_calls.specs.declared.process.State.TheVariants as state
 use Rattle.zl_calls.specs.declared.calls.process.Started.{Started}
-use Rattle.zl_calls.specs.declared.process.Process.{Process}
-use Rattle.zl_verify.proofs.Places.{get_put_other}
 
 -- ---- the process that is found
 

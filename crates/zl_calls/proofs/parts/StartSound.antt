@@ -1,19 +1,14 @@
 -- A process was started with a handle of another: the invariant of all processes and of the objects holds afterwards.
-use Rattle.zl_calls.proofs.Common.{Agrees, AreBlocked, AreNamed, Bool, Created, Entry, Inserts, IsConsistent, IsNamed, IsTable, IsTrue, Kind, List, Map}
-use Rattle.zl_calls.proofs.Common.{Objects, Ready, Some, [], ap, arith, body_value, cases_Bool, cond, count_by, eq-eqb, false, false≢true, get, handles_to}
-use Rattle.zl_calls.proofs.Common.{has_ended, has_key, has_key-update, has_living_child_here, inl, inr, is_above, is_blocked, is_child, is_created, is_in_job}
-use Rattle.zl_calls.proofs.Common.{is_kept, is_process, is_sorted-update, keeper_of, kept_all, kind_of, list_any, lives, map, object_value, or_cases, or_left}
-use Rattle.zl_calls.proofs.Common.{or_right, process_entry, process_value, queued_to, refl, runs, same_Some, same_in_job, started, started_body, starting}
-use Rattle.zl_calls.proofs.Common.{state_value, stays_alone, subst, sum_by, sym, true, update, without_handle, world_value, ℕ, ◌+◌, ◌==◌, ◌||◌, ◌∙◌, ◌∷◌, ◌≡◌}
-use Rattle.zl_code.proofs.Common.{Process as ProcessValue, State as StateValue}
+use Rattle.zl_calls.proofs.Common.{Agrees, AreBlocked, AreNamed, Body, Bool, Created, Entry, Inserts, IsConsistent, IsNamed, IsTable, IsTrue, Kind, List, Map}
+use Rattle.zl_calls.proofs.Common.{Object, Objects, Process, ProcessValue, Ready, Some, State, StateValue, [], ap, arith, body_value, cases_Bool, cond}
+use Rattle.zl_calls.proofs.Common.{count_by, eq-eqb, false, false≢true, get, handles_to, has_ended, has_key, has_key-update, has_living_child_here, inl, inr}
+use Rattle.zl_calls.proofs.Common.{is_above, is_blocked, is_child, is_created, is_in_job, is_kept, is_process, is_sorted-update, keeper_of, kept_all, kind_of}
+use Rattle.zl_calls.proofs.Common.{list_any, lives, map, object_value, or_cases, or_left, or_right, process_entry, process_value, queue_held, queued_to, refl}
+use Rattle.zl_calls.proofs.Common.{runs, same_Some, same_in_job, started, started_body, starting, state_value, stays_alone, subst, sum_by, sym, true, update}
+use Rattle.zl_calls.proofs.Common.{without_handle, world_value, ℕ, ◌+◌, ◌==◌, ◌||◌, ◌∙◌, ◌∷◌, ◌≡◌}
 use Rattle.zl_rights.specs.declared.kind.Kind.TheVariants as kind
-use Rattle.zl_objects.specs.Objects.{queue_held}
-use Rattle.zl_objects.specs.declared.object.Body.{Body}
 use Rattle.zl_objects.specs.declared.object.Body.TheVariants as body
 use Rattle.zl_objects.specs.declared.object.Life.TheVariants as life
-use Rattle.zl_objects.specs.declared.object.Object.{Object}
-use Rattle.zl_calls.specs.declared.process.Process.{Process}
-use Rattle.zl_calls.specs.declared.process.State.{State}
 use Rattle.zl_calls.specs.declared.process.State.TheVariants as state
 use Rattle.zl_calls.proofs.calls.Answered.{IsWrite}
 use Rattle.zl_calls.proofs.waking.BlockedLists.{still_blocked}

@@ -1,19 +1,15 @@
 -- The call process_start where it is done: in the world it is what the definitions make of it.
-use Rattle.zl_calls.proofs.Common.{IsToldIn, IsTrue, Library, List, Map, None, Objects, Ok, Parts, PlainCalls, Site, Some, StartsProcess, TRANSFER, WRITE, []}
-use Rattle.zl_calls.proofs.Common.{ap, cases_Bool, cpu_answered, eqb-true, false, get, inl, inr, is_created, is_ready, is_sorted, is_sorted-update, looked_up}
-use Rattle.zl_calls.proofs.Common.{map, nat_cmp, no_value, parts, process_entry, process_start, process_value, process_with, process_without, refl, same_Some}
-use Rattle.zl_calls.proofs.Common.{slice_get, slice_set, start_refusal, started_with, state_value, subst, sym, told_by, true, update, without_handle}
-use Rattle.zl_calls.proofs.Common.{world_value, ℕ, ◌==◌, ◌∙◌, ◌∷◌, ◌≡◌, ◌≢◌}
-use Rattle.zl_code.proofs.Common.{Process as ProcessValue, State}
+use Rattle.zl_calls.proofs.Common.{IsToldIn, IsTrue, Library, List, Map, None, Objects, Ok, Parts, PlainCalls, Process, ProcessValue, Site, Some, StartsProcess}
+use Rattle.zl_calls.proofs.Common.{StateValue, TRANSFER, Values, WRITE, [], ap, cases_Bool, cpu_answered, eqb-true, false, get, get_put_other, inl, inr}
+use Rattle.zl_calls.proofs.Common.{is_created, is_ready, is_sorted, is_sorted-update, looked_up, map, nat_cmp, no_value, parts, process_entry, process_start}
+use Rattle.zl_calls.proofs.Common.{process_value, process_with, process_without, refl, same_Some, slice_get, slice_set, start_refusal, started_with}
+use Rattle.zl_calls.proofs.Common.{state_value, subst, sym, told_by, true, update, without_handle, world_value, ℕ, ◌==◌, ◌∙◌, ◌∷◌, ◌≡◌, ◌≢◌}
 use Rattle.zl_rights.specs.declared.kind.Kind.TheVariants as kind
 use Rattle.zl_rights.specs.declared.status.Status.TheVariants as status
 use Rattle.zl_code.specs.declared.history.Outcome.TheVariants as outcome
-use Rattle.zl_calls.specs.declared.process.Process.{Process}
-use Rattle.zl_code.proofs.Common.{Values}
 use Rattle.zl_calls.proofs.calls.Answered.{IsWrite, asking}
 use Rattle.zl_calls.proofs.parts.StartCalls.{caller_is, child_is, start_calls, writes_at}
 use Rattle.zl_calls.proofs.parts.StartParts.{get_set, not_both, set_apart, set_twice}
-use Rattle.zl_verify.proofs.Places.{get_put_other}
 
 module _ {lib : Library} {ps : List Process} {r : Objects} {blocked : List ℕ} {place process h word : ℕ} {p : Process} {all1 all2 : Parts}
     (base : Site) (is_caller : slice_get ps place ≡ Some p) (ready : is_ready (state_value p.state) ≡ true)
@@ -76,7 +72,7 @@ module _ {lib : Library} {ps : List Process} {r : Objects} {blocked : List ℕ} 
         let same : does.child.pid ≡ p.pid = does.pid ∙ sym (eqb-true p.pid does.named.koid here) in
         let one : process_value does.child ≡ process_value p =
         same_Some (process_value does.child) (process_value p) (sym child_write.there ∙ (ap (λ (k : ℕ). get (map process_entry ps) k) same ∙ caller_held)) in
-        absurd (not_both p.state (subst (λ (x : State). is_created x ≡ true) (ap (λ (q : ProcessValue). q.state) one) does.is_created) ready)
+        absurd (not_both p.state (subst (λ (x : StateValue). is_created x ≡ true) (ap (λ (q : ProcessValue). q.state) one) does.is_created) ready)
     | inr apart ↦ apart
   ]
 

@@ -1,25 +1,22 @@
 -- The call process_start in the midst of all processes: from what it did to a step, up to where processes wake.
 use Rattle.zl_calls.proofs.Common.{AreBlocked, AtCall, CallName, ClosesEach, ClosesHandle, Err, Handles, IsActed, IsAnsweredIn, IsConsistent, IsNamed}
-use Rattle.zl_calls.proofs.Common.{IsRefusedBy, IsToldIn, Kind, Library, List, Objects, Ok, Outcome, Parts, PlainCalls, ProcessStartDoes, Result, Site, Some}
-use Rattle.zl_calls.proofs.Common.{StartsProcess, Status, TRANSFER, WRITE, World, [], ap, cpu_answered, false≢true, get, gives_refused, handle_operands}
-use Rattle.zl_calls.proofs.Common.{looked_up, next_for, next_looks, no_value, parts, process_start, process_value, refl, same_Some, set, slice_get}
-use Rattle.zl_calls.proofs.Common.{slice_set, start_refusal, starting, state_value, status_of, subst, sym, taken_handles, takes, told_by, true, wants_memory}
-use Rattle.zl_calls.proofs.Common.{without_handle, world_value, ℕ, ⊤, ◌∙◌, ◌∷◌, ◌≡◌}
+use Rattle.zl_calls.proofs.Common.{IsRefusedBy, IsToldIn, Kind, Library, List, Objects, Ok, Outcome, Parts, PlainCalls, Process, ProcessStartDoes, Result, Site}
+use Rattle.zl_calls.proofs.Common.{Some, StartsProcess, Status, TRANSFER, Values, WRITE, World, [], ap, cpu_answered, false≢true, get, gives_refused}
+use Rattle.zl_calls.proofs.Common.{handle_operands, lives, looked_up, next_for, next_looks, no_value, parts, process_start, process_value, refl, same_Some, set}
+use Rattle.zl_calls.proofs.Common.{slice_get, slice_set, start_refusal, starting, state_value, status_of, subst, sym, taken_handles, takes, told_by, true}
+use Rattle.zl_calls.proofs.Common.{wants_memory, without_handle, world_value, ℕ, ⊤, ◌∙◌, ◌∷◌, ◌≡◌}
 use Rattle.zl_code.specs.declared.history.Outcome.TheVariants as outcome
 use Rattle.zl_code.specs.declared.history.TraceItem.TheVariants as item
 use Rattle.zl_rights.specs.declared.kind.Kind.TheVariants as kind
 use Rattle.zl_rights.specs.declared.status.Status.TheVariants as status
-use Rattle.zl_calls.specs.declared.process.Process.{Process}
 use Rattle.zl_calls.specs.declared.process.State.TheVariants as state
 use Rattle.zl_calls.proofs.calls.Answered.{IsWrite, asking}
 use Rattle.zl_calls.proofs.processes.Departed.{left_all, settled_world}
 use Rattle.zl_calls.proofs.waits.LeftWaits.{lists_kept}
 use Rattle.zl_calls.proofs.calls.DoneCalls.{IsDone}
 use Rattle.zl_calls.proofs.processes.Idle.{are_bare}
-use Rattle.zl_calls.proofs.Common.{lives}
 use Rattle.zl_calls.proofs.calls.Owned.{IsOwn, IsOwnCall, own_call_of}
 use Rattle.zl_calls.proofs.parts.StartOwn.{start_own}
-use Rattle.zl_code.proofs.Common.{Values}
 use Rattle.zl_calls.proofs.step.OwnCalls.{call_beside}
 use Rattle.zl_calls.proofs.step.FromConsistent.{IsFree, call_settles}
 use Rattle.zl_calls.proofs.step.Performing.{AtTurn, HasLeft, acted_so, is_caller, itself, key, left_as, left_with, ready, unblocked, write_of}

@@ -1,15 +1,13 @@
 -- What a verdict makes of a call for the definitions: it is answered, or its caller ends.
-use Rattle.zl_calls.proofs.Common.{BY_POLICY, Bool, Condition, Entry, Library, Map, None, Option, Refused, Request, Site, Some, Status, Verdict, World, [], ap}
-use Rattle.zl_calls.proofs.Common.{chan_create, chan_read_etc, condition_of, ended, false, get, gives_refused, handle_operands, if◌then◌else◌, is_some, job_at}
-use Rattle.zl_calls.proofs.Common.{job_in, none-some, on_fault_by, operands_fault, refl, remove_all, replied, sym, taken_handles, true, true≢false, verdict_by}
-use Rattle.zl_calls.proofs.Common.{verdict_in, verdict_on, wait_poll, ℕ, ◌∙◌, ◌≡◌}
-use Rattle.zl_code.proofs.Common.{Action, Calls, refusal}
+use Rattle.zl_calls.proofs.Common.{BY_POLICY, Bool, Calls, Condition, Entry, Library, Map, None, Object, Option, Refused, Request, Site, Some, Status, Verdict}
+use Rattle.zl_calls.proofs.Common.{World, [], action_here, ap, chan_create, chan_read_etc, condition_of, ended, false, get, gives_refused, handle_operands}
+use Rattle.zl_calls.proofs.Common.{if◌then◌else◌, is_some, job_at, job_in, none-some, on_fault_by, operands_fault, refl, remove_all, replied, sym}
+use Rattle.zl_calls.proofs.Common.{taken_handles, true, true≢false, verdict_by, verdict_in, verdict_on, wait_poll, ℕ, ◌∙◌, ◌≡◌}
+use Rattle.zl_code.proofs.Common.{Action, refusal}
 use Rattle.zl_rights.specs.declared.policy.Action.TheVariants as action
 use Rattle.zl_rights.specs.declared.policy.Condition.TheVariants as condition
 use Rattle.zl_rights.specs.declared.status.Status.TheVariants as status
 use Rattle.zl_code.specs.declared.history.Outcome.TheVariants as outcome
-use Rattle.zl_objects.specs.Jobs.{action_here}
-use Rattle.zl_objects.specs.declared.object.Object.{Object}
 use Rattle.zl_calls.specs.declared.policy.Verdict.TheVariants as verdict
 use Rattle.zl_calls.proofs.policy.Policies.{ending}
 

@@ -1,12 +1,10 @@
 -- A call that a policy denies is answered in the registers that its row writes.
-use Rattle.zl_calls.proofs.Common.{CallInstr, CallName, Condition, Cpu, IfSome, List, Objects, Option, Some, [], answered, ap, call_row, cpu_answered}
-use Rattle.zl_calls.proofs.Common.{if◌then◌else◌, is_some, refl, site_at, site_named, site_of, status_magnitude, sym, ℕ, ◌∙◌, ◌∷◌, ◌≡◌}
-use Rattle.zl_code.specs.Asked.{is_written, those}
+use Rattle.zl_calls.proofs.Common.{CallInstr, CallName, Condition, Cpu, IfSome, List, Objects, Option, Process, Some, [], answered, ap, call_row, cpu_answered}
+use Rattle.zl_calls.proofs.Common.{if◌then◌else◌, is_some, is_written, refl, site_at, site_named, site_of, status_magnitude, sym, those, ℕ, ◌∙◌, ◌∷◌, ◌≡◌}
 use Rattle.zl_code.specs.declared.history.CallName.TheVariants as name
 use Rattle.zl_code.specs.declared.history.Outcome.TheVariants as outcome
 use Rattle.zl_rights.specs.declared.status.Status.TheVariants as status
 use Rattle.zl_calls.specs.Policed.{IsDenied}
-use Rattle.zl_calls.specs.declared.process.Process.{Process}
 use Rattle.zl_calls.proofs.policy.Examining.{if_there}
 
 abbrev told_at : CallName → List ℕ → List ℕ → Cpu → Cpu

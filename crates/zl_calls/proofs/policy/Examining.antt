@@ -1,22 +1,20 @@
 -- What a policy is asked goes by the row of the call: its condition, and the faults of its handle operands from left to right.
-use Rattle.zl_calls.proofs.Common.{Bool, CallInstr, CallName, Condition, Cpu, Entry, Err, IfSome, List, Map, None, Ok, Option, Result, Row, Site, Some, Status}
-use Rattle.zl_calls.proofs.Common.{TRANSFER, Verdict, WRITE, [], ap, arith, call_row, condition_of, consumes, contains, drop, false, fault_of, field_of}
-use Rattle.zl_calls.proofs.Common.{fields_fault, flat_map, get, get_or, handle_operands, if◌then◌else◌, job_at, job_in, last_fault, length, list_refusal}
-use Rattle.zl_calls.proofs.Common.{looked_up, map, operand_by, operands_fault, option_or, refl, reg, result_err, site_at, site_named, site_of, slice_index}
-use Rattle.zl_calls.proofs.Common.{subst, suc, sym, then_some, true, used, verdict_by, verdict_in, verdict_on, zero, ℕ, ◌++◌, ◌<◌, ◌==◌, ◌||◌, ◌∙◌, ◌∷◌, ◌≡◌}
-use Rattle.zl_calls.proofs.Common.{◌≤◌}
+use Rattle.zl_calls.proofs.Common.{Bool, CallInstr, CallName, Condition, Cpu, Entry, Err, IfSome, List, Map, None, Object, Ok, Option, Result, Row, Site, Some}
+use Rattle.zl_calls.proofs.Common.{Status, TRANSFER, Verdict, WRITE, [], action_here, ap, arith, array_in, call_row, condition_of, consumes, contains, drop}
+use Rattle.zl_calls.proofs.Common.{emptied_count, false, fault_of, field_of, fields_fault, filled_among, flat_map, get, get_or, handle_operands, if◌then◌else◌}
+use Rattle.zl_calls.proofs.Common.{job_at, job_in, last_fault, length, list_refusal, looked_up, map, operand_by, operands_fault, option_or, refl, reg}
+use Rattle.zl_calls.proofs.Common.{result_err, site_at, site_named, site_of, slice_index, subst, suc, sym, then_some, true, used, verdict_by, verdict_in}
+use Rattle.zl_calls.proofs.Common.{verdict_on, zero, ℕ, ◌++◌, ◌<◌, ◌==◌, ◌||◌, ◌∙◌, ◌∷◌, ◌≡◌, ◌≤◌}
 use Rattle.std.proofs.Math.Bool.{or_comm}
 use Rattle.std.proofs.lemmas.List.Recursion.{or_push}
 use Rattle.zl_code.specs.declared.history.CallName.TheVariants as name
 use Rattle.zl_rights.specs.declared.kind.Kind.TheVariants as kind
 use Rattle.zl_rights.specs.declared.status.Status.TheVariants as status
 use Rattle.std.proofs.lemmas.List.{drop_all}
-use Rattle.zl_code.specs.Asked.{array_in, emptied_count, filled_among, given_in, listed_values}
+use Rattle.zl_code.specs.Asked.{given_in, listed_values}
 use Rattle.zl_code.specs.declared.layout.Ending.{Ending}
 use Rattle.zl_code.specs.declared.layout.Field.{Field}
 use Rattle.zl_calls.specs.FieldFaults.{field_fault}
-use Rattle.zl_objects.specs.Jobs.{action_here}
-use Rattle.zl_objects.specs.declared.object.Object.{Object}
 
 -- a site that may not be there
 pub if_there : (there : Bool) (s : Site) (P : Site → Type 0) → P s → IfSome (then_some there s) P

@@ -1,17 +1,11 @@
 -- Where the policy of a process's job has no verdict on its call, no policy has a say at all.
-use Rattle.zl_calls.proofs.Common.{AtCall, Bool, CallName, IsConsistent, JobBody, Library, List, Map, Next, None, Objects, Option, Site, Some, World, ap, arith}
-use Rattle.zl_calls.proofs.Common.{body_in, body_value, false, false≢true, get, get_seen, is_job_at, is_job_here, is_job_in, is_ready, lives, map, next_for}
-use Rattle.zl_calls.proofs.Common.{object_entry, object_value, option_map, plain_refusal, process_entry, process_value, refl, same_Some, state_value, subst}
-use Rattle.zl_calls.proofs.Common.{sym, true, verdict_on, world_blocked, ℕ, ◌∙◌, ◌≡◌}
-use Rattle.zl_code.proofs.Common.{Body as BodyValue, Process as ProcessValue}
-use Rattle.zl_code.specs.Refusals.{refusal}
-use Rattle.zl_code.specs.Sound.{IsSound}
-use Rattle.zl_objects.specs.declared.object.Body.{Body}
+use Rattle.zl_calls.proofs.Common.{AtCall, Body, Bool, CallName, IsConsistent, IsSound, JobBody, Library, List, Map, Next, None, Object, Objects, Option}
+use Rattle.zl_calls.proofs.Common.{Process, ProcessValue, Site, Some, State, World, ap, arith, body_in, body_value, false, false≢true, get, get_seen, is_job_at}
+use Rattle.zl_calls.proofs.Common.{is_job_here, is_job_in, is_ready, lives, map, next_for, object_entry, object_value, option_map, plain_refusal, process_entry}
+use Rattle.zl_calls.proofs.Common.{process_value, refl, refusal, same_Some, state_value, subst, sym, true, verdict_on, world_blocked, ℕ, ◌∙◌, ◌≡◌}
+use Rattle.zl_code.proofs.Common.{Body as BodyValue}
 use Rattle.zl_objects.specs.declared.object.Body.TheVariants as body
-use Rattle.zl_objects.specs.declared.object.Object.{Object}
-use Rattle.zl_calls.specs.declared.process.State.{State}
 use Rattle.zl_calls.specs.declared.process.State.TheVariants as state
-use Rattle.zl_calls.specs.declared.process.Process.{Process}
 use Rattle.zl_calls.proofs.step.FromConsistent.{IsFree}
 use Rattle.zl_calls.proofs.policy.Policies.{IsSeen, unpoliced}
 

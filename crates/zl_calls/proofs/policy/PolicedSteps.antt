@@ -1,10 +1,9 @@
 -- A call in the midst of all processes that the policy of its process's job ends.
-use Rattle.zl_calls.proofs.Common.{AtCall, CallName, EndsBy, KeepSleepers, Library, List, Objects, Outcome, Parts, Policed, Site, Verdict, ap, false}
+use Rattle.zl_calls.proofs.Common.{AtCall, CallName, EndsBy, KeepSleepers, Library, List, Objects, Outcome, Parts, Policed, Process, Site, Verdict, ap, false}
 use Rattle.zl_calls.proofs.Common.{is_blocking, next_for, parts, process_value, refl, set, subst, sym, ℕ, ◌≡◌}
 use Rattle.zl_code.specs.declared.history.TraceItem.TheVariants as item
 use Rattle.zl_calls.specs.Reaching.{IsAlone}
 use Rattle.zl_calls.specs.declared.policy.Verdict.TheVariants as verdict
-use Rattle.zl_calls.specs.declared.process.Process.{Process}
 use Rattle.zl_calls.proofs.calls.Answered.{IsWrite}
 use Rattle.zl_calls.proofs.waking.BlockedLists.{same_list, still_blocked}
 use Rattle.zl_calls.proofs.processes.Departed.{left_blocked, left_keeps}

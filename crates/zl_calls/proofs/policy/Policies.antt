@@ -1,20 +1,18 @@
 -- The refusal of a call: the verdict of a policy, and behind it the refusal where no policy decides.
-use Rattle.zl_calls.proofs.Common.{BY_POLICY, Bool, Condition, Entry, Err, Library, List, Map, None, Ok, Operand, Option, Outcome, Request, Result, Some}
-use Rattle.zl_calls.proofs.Common.{Status, Verdict, World, [], ap, body_in, body_value, condition_number, condition_of, contains, entry_at, examined, false}
-use Rattle.zl_calls.proofs.Common.{first_some, get, get_seen, granted, handle_operands, if◌then◌else◌, is_job_at, is_job_here, is_job_in, job_at, job_in}
-use Rattle.zl_calls.proofs.Common.{job_of, listed, map, object_entry, object_value, on_fault_by, operand, operands_fault, option_map, option_or, parent_of}
-use Rattle.zl_calls.proofs.Common.{policy_in, refl, result_err, subst, sym, table_of, true, true≢false, unwrap_or, verdict_by, verdict_in, verdict_on, ℕ, ◌&&◌}
-use Rattle.zl_calls.proofs.Common.{◌==◌, ◌∙◌, ◌∷◌, ◌≡◌}
+use Rattle.zl_calls.proofs.Common.{BY_POLICY, Body, Bool, Condition, Entry, Err, Library, List, Map, None, Object, Ok, Operand, Option, Outcome, Request}
+use Rattle.zl_calls.proofs.Common.{Result, Some, Status, Verdict, World, [], action_here, ap, body_in, body_value, condition_number, condition_of, contains}
+use Rattle.zl_calls.proofs.Common.{entry_at, examined, false, first_some, get, get_seen, granted, handle_operands, if◌then◌else◌, is_job_at, is_job_here}
+use Rattle.zl_calls.proofs.Common.{is_job_in, job_at, job_in, job_of, listed, map, object_entry, object_value, on_fault_by, operand, operands_fault, option_map}
+use Rattle.zl_calls.proofs.Common.{option_or, parent_of, policy_in, refl, result_err, subst, sym, table_of, true, true≢false, unwrap_or, verdict_by, verdict_in}
+use Rattle.zl_calls.proofs.Common.{verdict_on, ℕ, ◌&&◌, ◌==◌, ◌∙◌, ◌∷◌, ◌≡◌}
 use Rattle.zl_rights.specs.declared.policy.Action.TheVariants as action
 use Rattle.zl_rights.specs.declared.policy.Condition.TheVariants as condition
 use Rattle.zl_rights.specs.declared.status.Status.TheVariants as status
 use Rattle.zl_code.proofs.Common.{Action, action_of, by_look_up, by_policy, creates, ends_if_kill, operand_after, parent_in, refusal, seen_after}
 use Rattle.zl_code.proofs.Common.{unless_allowed}
 use Rattle.zl_code.specs.declared.history.Outcome.TheVariants as outcome
-use Rattle.zl_objects.specs.Jobs.{action_here, as_job, as_job_in}
-use Rattle.zl_objects.specs.declared.object.Body.{Body}
+use Rattle.zl_objects.specs.Jobs.{as_job, as_job_in}
 use Rattle.zl_objects.specs.declared.object.Body.TheVariants as body
-use Rattle.zl_objects.specs.declared.object.Object.{Object}
 use Rattle.zl_calls.specs.Policed.{fault_after, on_making}
 use Rattle.zl_calls.specs.declared.policy.Verdict.TheVariants as verdict
 use Rattle.zl_calls.proofs.policy.Plain.{answers, plain_refusal}

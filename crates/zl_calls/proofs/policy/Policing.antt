@@ -1,16 +1,13 @@
 -- A call that the policy of its process's job ends: it is a step up to where processes wake, and the invariant holds afterwards.
-use Rattle.zl_calls.proofs.Common.{ActsAndSettles, AreBlocked, AtCall, BY_POLICY, CallName, EndsBy, Exits, IsActed, IsConsistent, IsDenied, KeepSleepers}
-use Rattle.zl_calls.proofs.Common.{Library, List, Objects, Outcome, Policed, Ready, Site, Some, Verdict, World, [], ap, ended, false, filter, is_blocked}
-use Rattle.zl_calls.proofs.Common.{is_blocking, is_ready, next_for, not, process_value, refl, replied, replied_among, settles_waiting, state_value, subst, sym}
-use Rattle.zl_calls.proofs.Common.{verdict_on, with_waiters, world_blocked, world_left, world_value, ℕ, ◌==◌, ◌∙◌, ◌≡◌}
+use Rattle.zl_calls.proofs.Common.{ActsAndSettles, AreBlocked, AtCall, BY_POLICY, CallName, Calls, EndsBy, Exits, FreeBy, IsActed, IsConsistent, IsDenied}
+use Rattle.zl_calls.proofs.Common.{IsOwnDone, IsSound, KeepSleepers, Library, List, Objects, Outcome, Policed, Process, Ready, Site, Some, Verdict, World, []}
+use Rattle.zl_calls.proofs.Common.{ap, ended, false, filter, is_blocked, is_blocking, is_left_at_port, is_process, is_ready, left_free, next_for, not}
+use Rattle.zl_calls.proofs.Common.{own_beside, process_value, refl, refusal, replied, replied_among, settles_waiting, state_value, subst, sym, verdict_on}
+use Rattle.zl_calls.proofs.Common.{with_waiters, without_handles, world_blocked, world_left, world_value, ℕ, ◌==◌, ◌∙◌, ◌≡◌}
 use Rattle.zl_rights.specs.declared.status.Status.TheVariants as status
-use Rattle.zl_code.proofs.Common.{Calls, IsSound}
-use Rattle.zl_code.specs.Refusals.{refusal}
-use Rattle.zl_code.proofs.StepsWaiting.{is_left as is_left_at_port}
 use Rattle.zl_code.proofs.Waiters.{ended_among}
 use Rattle.zl_code.specs.declared.history.TraceItem.TheVariants as item
 use Rattle.zl_calls.specs.declared.policy.Verdict.TheVariants as verdict
-use Rattle.zl_calls.specs.declared.process.Process.{Process}
 use Rattle.zl_calls.proofs.calls.Answered.{IsWrite, same_world}
 use Rattle.zl_calls.proofs.waking.BlockedLists.{none_filtered}
 use Rattle.zl_calls.proofs.policy.Denials.{denied_calls, denied_object, killed_calls, making_takes_none}
@@ -21,10 +18,7 @@ use Rattle.zl_calls.proofs.policy.Freedom.{is_seen}
 use Rattle.zl_calls.proofs.policy.Policies.{ending, policed}
 use Rattle.zl_calls.proofs.calls.ProcessCalls.{ended_is, ends_keeps, over_free, settles}
 use Rattle.zl_calls.proofs.calls.Owned.{own_in, own_refused}
-use Rattle.zl_calls.specs.Own.{FreeBy, IsOwnDone, own_beside}
 use Rattle.zl_calls.proofs.step.OwnDone.{refused_of}
-use Rattle.zl_calls.proofs.Common.{is_process, without_handles}
-use Rattle.zl_code.specs.Own.{left_free}
 use Rattle.zl_calls.proofs.objects.Settled.{still_settles}
 use Rattle.zl_calls.proofs.processes.Written.{refusal_keeps}
 

@@ -1,13 +1,11 @@
 -- What the code finds of a policy's verdict: none where nothing is set, and what an answer of the code says of it.
-use Rattle.zl_calls.proofs.Common.{Condition, Entry, IfSome, IsDenied, Job, Map, None, Objects, Option, Outcome, Policed, Request, Site, Some, Status, [], ap}
-use Rattle.zl_calls.proofs.Common.{condition_of, false, get, handle_operands, is_empty, job_at, job_in, not, operands_fault, sym, true≢false, verdict_by}
-use Rattle.zl_calls.proofs.Common.{verdict_in, verdict_on, ℕ, ◌∙◌, ◌∷◌, ◌≡◌}
+use Rattle.zl_calls.proofs.Common.{Condition, Entry, IfSome, IsDenied, Job, Map, None, Object, Objects, Option, Outcome, Policed, Process, Request, Site, Some}
+use Rattle.zl_calls.proofs.Common.{Status, [], action_here, ap, condition_of, false, get, handle_operands, is_empty, job_at, job_in, not, operands_fault, sym}
+use Rattle.zl_calls.proofs.Common.{true≢false, verdict_by, verdict_in, verdict_on, ℕ, ◌∙◌, ◌∷◌, ◌≡◌}
 use Rattle.zl_rights.specs.Policies.{action_in}
 use Rattle.zl_rights.specs.declared.policy.Action.{Action}
-use Rattle.zl_objects.specs.Jobs.{action_here, has_actions}
-use Rattle.zl_objects.specs.declared.object.Object.{Object}
+use Rattle.zl_objects.specs.Jobs.{has_actions}
 use Rattle.zl_calls.specs.declared.policy.Verdict.TheVariants as verdict
-use Rattle.zl_calls.specs.declared.process.Process.{Process}
 use Rattle.zl_calls.proofs.policy.Policies.{verdict_allowed}
 
 -- what is true of each site is true of the one that is there

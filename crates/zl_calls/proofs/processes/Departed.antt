@@ -1,14 +1,11 @@
 -- Processes that were never started go with their objects: what settling leaves of a world, and that the invariant stays.
-use Rattle.zl_calls.proofs.Common.{AreBlocked, Bool, Created, IsConsistent, IsTable, IsTrue, Koids, List, Map, None, Objects, Option, Some, World, [], ap}
-use Rattle.zl_calls.proofs.Common.{count_by, each, eq-eqb, false, get, get-each, handles_to, has_handle, has_key, has_seen, if◌then◌else◌, in_order-each}
-use Rattle.zl_calls.proofs.Common.{is_blocked, is_process, is_some, is_sorted, left_beside, left_state, lives, map, nat_cmp, none-some, object_entry}
-use Rattle.zl_calls.proofs.Common.{option_map, passes, process_entry, process_settled, queued_to, refl, same_Some, same_map, state_passes, state_value}
-use Rattle.zl_calls.proofs.Common.{state_without, subst, sum_by, sum_by-cons, sym, true, where_key, with_all, without_others, world_value, ℕ, ◌+◌, ◌<◌, ◌==◌}
-use Rattle.zl_calls.proofs.Common.{◌^◌, ◌∙◌, ◌∷◌, ◌≡◌}
-use Rattle.zl_code.proofs.Common.{Process as ProcessValue, Object, State as StateValue}
-use Rattle.zl_calls.specs.declared.process.State.{State}
+use Rattle.zl_calls.proofs.Common.{AreBlocked, Bool, Created, IsConsistent, IsTable, IsTrue, Koids, List, Map, None, ObjectValue, Objects, Option, Process}
+use Rattle.zl_calls.proofs.Common.{ProcessValue, Some, State, StateValue, World, [], ap, count_by, each, eq-eqb, false, get, get-each, handles_to, has_handle}
+use Rattle.zl_calls.proofs.Common.{has_key, has_seen, if◌then◌else◌, in_order-each, is_blocked, is_process, is_some, is_sorted, left_beside, left_state, lives}
+use Rattle.zl_calls.proofs.Common.{map, nat_cmp, none-some, object_entry, option_map, passes, process_entry, process_settled, queued_to, refl, same_Some}
+use Rattle.zl_calls.proofs.Common.{same_map, state_passes, state_value, state_without, subst, sum_by, sum_by-cons, sym, true, where_key, with_all}
+use Rattle.zl_calls.proofs.Common.{without_others, world_value, ℕ, ◌+◌, ◌<◌, ◌==◌, ◌^◌, ◌∙◌, ◌∷◌, ◌≡◌}
 use Rattle.zl_calls.specs.declared.process.State.TheVariants as state
-use Rattle.zl_calls.specs.declared.process.Process.{Process}
 use Rattle.zl_calls.proofs.objects.SameBodies.{still_agrees}
 use Rattle.zl_rights.proofs.MapEdits.{has_key-behind}
 
@@ -118,7 +115,7 @@ module _ (ps : List Process) (r : Objects) where
 
   pub same_counts : (k : ℕ) → handles_to (settled_world ps r) k ≡ handles_to (world_value ps r) k
   unfolding handles_to
-  same_counts k = ap (λ n. n + sum_by (λ (o : ℕ × Object). queued_to k o.1.body) (map object_entry r.objects)) (summed_left k ps)
+  same_counts k = ap (λ n. n + sum_by (λ (o : ℕ × ObjectValue). queued_to k o.1.body) (map object_entry r.objects)) (summed_left k ps)
 
   pub left_keeps : IsConsistent ps r → IsConsistent (left_all ps r) r
   unfolding is_process

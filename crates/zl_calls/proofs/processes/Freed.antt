@@ -1,20 +1,12 @@
 -- The values that processes have for new handles, as one of them changes.
-use Rattle.zl_calls.proofs.Common.{Bool, IsTrue, List, Map, None, Option, Some, [], ap, cases_Bool, eqb-true, cond, false, get, get-update, inl, inr, lives}
-use Rattle.zl_calls.proofs.Common.{map, option_map, process_at, process_entry, process_value, refl, set, state_value, suc, sym, true, zero, ℕ, ◌==◌, ◌∙◌, ◌∷◌}
-use Rattle.zl_calls.proofs.Common.{◌≡◌, if◌then◌else◌, ◌⊎◌}
+use Rattle.zl_calls.proofs.Common.{Bool, ClosesAllEnded, ClosesEnded, Free, FreeBy, IsTrue, List, Map, None, Object, Objects, Option, Process, Some, State, []}
+use Rattle.zl_calls.proofs.Common.{ap, cases_Bool, cond, ended_if, ended_within, eqb-true, false, free_at, free_entry, free_of, free_or, get, get-update}
+use Rattle.zl_calls.proofs.Common.{has_key, if◌then◌else◌, inl, inr, is_within_here, left_beside, left_state, lives, living, map, new_free, option_map}
+use Rattle.zl_calls.proofs.Common.{process_at, process_entry, process_value, refl, same_Some, set, slice_get, slice_set, state_value, subst, suc, sym, true}
+use Rattle.zl_calls.proofs.Common.{zero, ℕ, ⊤, ◌&&◌, ◌++◌, ◌==◌, ◌∙◌, ◌∷◌, ◌≡◌, ◌⊎◌}
 use Rattle.std.specs.Prelude.{slice_index_or}
-use Rattle.zl_code.specs.Own.{free_at, free_or}
-use Rattle.zl_rights.specs.Values.{Free, new_free}
-use Rattle.zl_calls.specs.Own.{FreeBy, living}
-use Rattle.zl_calls.specs.World.{free_entry, free_of}
-use Rattle.zl_calls.proofs.Common.{ClosesAllEnded, ClosesEnded, Objects, ended_if, ended_within, has_key, is_within_here, same_Some, slice_get, slice_set}
-use Rattle.zl_calls.proofs.Common.{subst, ⊤, ◌&&◌, ◌++◌}
 use Rattle.zl_calls.specs.calls.Task.{is_over, lives_on, none_left, one_more}
-use Rattle.zl_objects.specs.declared.object.Object.{Object}
-use Rattle.zl_calls.specs.Leaving.{left_beside, left_state}
-use Rattle.zl_calls.specs.declared.process.State.{State}
 use Rattle.zl_calls.specs.declared.process.State.TheVariants as state
-use Rattle.zl_calls.specs.declared.process.Process.{Process}
 use Rattle.zl_calls.proofs.calls.Answered.{IsWrite}
 use Rattle.zl_calls.proofs.processes.Written.{get_after}
 

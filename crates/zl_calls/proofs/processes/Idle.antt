@@ -1,11 +1,8 @@
 -- Processes that were made and not started have no handles, nor have those that are over; and each process stands where its koid is.
-use Rattle.zl_calls.proofs.Common.{AreClosed, IsTrue, List, Objects, Some, [], eq-eqb, false, false≢true, get, is_created, is_sorted, lives, map, nat_cmp}
-use Rattle.zl_calls.proofs.Common.{none-some, process_entry, process_value, refl, runs, same_Some, slice_get, sorted_parts, state_value, suc, sym, true}
-use Rattle.zl_calls.proofs.Common.{world_blocked, zero, ℕ, ◌∷◌, ◌≡◌}
-use Rattle.zl_code.specs.Sound.{IsSound}
-use Rattle.zl_calls.specs.declared.process.State.{State}
+use Rattle.zl_calls.proofs.Common.{AreClosed, IsSound, IsTrue, List, Objects, Process, Some, State, [], eq-eqb, false, false≢true, get, is_created, is_sorted}
+use Rattle.zl_calls.proofs.Common.{lives, map, nat_cmp, none-some, process_entry, process_value, refl, runs, same_Some, slice_get, sorted_parts, state_value}
+use Rattle.zl_calls.proofs.Common.{suc, sym, true, world_blocked, zero, ℕ, ◌∷◌, ◌≡◌}
 use Rattle.zl_calls.specs.declared.process.State.TheVariants as state
-use Rattle.zl_calls.specs.declared.process.Process.{Process}
 use Rattle.zl_calls.proofs.lists.Updates.{found_behind}
 
 pub get_placed : (ps : List Process) → IsTrue (is_sorted nat_cmp (map process_entry ps)) → (n : ℕ) (q : Process) → slice_get ps n ≡ Some q

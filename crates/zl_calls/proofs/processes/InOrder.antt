@@ -1,9 +1,7 @@
 -- The list of processes stays in order where none changes its koid, and where a newer one comes behind the others.
-use Rattle.zl_calls.proofs.Common.{ClosesEnded, IsTrue, List, Objects, Some, [], ap, get_or, has_key, has_key-update, is_over, is_sorted, is_sorted-update}
-use Rattle.zl_calls.proofs.Common.{lives_on, map, map-append, nat_cmp, process_entry, process_value, put, put_last, refl, set, slice_get, sorted_put, suc, sym}
-use Rattle.zl_calls.proofs.Common.{update, zero, ℕ, ◌++◌, ◌<◌, ◌∙◌, ◌∷◌, ◌≡◌}
-use Rattle.zl_code.proofs.Common.{Process as ProcessValue}
-use Rattle.zl_calls.specs.declared.process.Process.{Process}
+use Rattle.zl_calls.proofs.Common.{ClosesEnded, IsTrue, List, Objects, Process, ProcessValue, Some, [], ap, get_or, has_key, has_key-update, is_over, is_sorted}
+use Rattle.zl_calls.proofs.Common.{is_sorted-update, lives_on, map, map-append, nat_cmp, process_entry, process_value, put, put_last, refl, set, slice_get}
+use Rattle.zl_calls.proofs.Common.{sorted_put, suc, sym, update, zero, ℕ, ◌++◌, ◌<◌, ◌∙◌, ◌∷◌, ◌≡◌}
 use Rattle.zl_calls.proofs.lists.Updates.{seen_entry, sorted_seen}
 use Rattle.zl_calls.proofs.parts.StartCalls.{writes_at}
 

@@ -1,15 +1,10 @@
 -- One process more, with its object: what the invariant says of both.
-use Rattle.zl_calls.proofs.Common.{Agrees, All, All-nil, AreNamed, AreSound, Bool, Entry, IsNamed, IsTable, IsTrue, Life, List, Map, Message, Objects, Some, []}
-use Rattle.zl_calls.proofs.Common.{ap, arith, cases_Bool, cond, count_by, eq-eqb, eqb-true, false, get, get-put, handles_to, if◌then◌else◌, inl, inr, is_in_job}
-use Rattle.zl_calls.proofs.Common.{is_process, map, map-append, new_object, process_entry, process_value, put, put_key, put_last, refl, same_Some, sorted_put}
-use Rattle.zl_calls.proofs.Common.{state_value, subst, sum_by, sum_by-append, sum_by-cons, sym, with_new, world_value, ℕ, ◌++◌, ◌+◌, ◌<◌, ◌==◌, ◌^◌, ◌∙◌, ◌∷◌}
-use Rattle.zl_calls.proofs.Common.{◌≡◌, ◌⊎◌}
-use Rattle.zl_code.proofs.Common.{Process as ProcessValue, State}
-use Rattle.zl_objects.specs.declared.object.Body.{Body}
+use Rattle.zl_calls.proofs.Common.{Agrees, All, All-nil, AreNamed, AreSound, Body, Bool, Entry, IsNamed, IsTable, IsTrue, Life, List, Map, Message, Object}
+use Rattle.zl_calls.proofs.Common.{Objects, Process, ProcessValue, Some, StateValue, [], ap, arith, cases_Bool, cond, count_by, eq-eqb, eqb-true, false, get}
+use Rattle.zl_calls.proofs.Common.{get-put, handles_to, if◌then◌else◌, inl, inr, is_in_job, is_process, map, map-append, new_object, process_entry}
+use Rattle.zl_calls.proofs.Common.{process_value, put, put_key, put_last, queue_held, refl, same_Some, sorted_put, state_value, subst, sum_by, sum_by-append}
+use Rattle.zl_calls.proofs.Common.{sum_by-cons, sym, with_new, world_value, ℕ, ◌++◌, ◌+◌, ◌<◌, ◌==◌, ◌^◌, ◌∙◌, ◌∷◌, ◌≡◌, ◌⊎◌}
 use Rattle.zl_objects.specs.declared.object.Body.TheVariants as body
-use Rattle.zl_objects.specs.declared.object.Object.{Object}
-use Rattle.zl_objects.specs.Objects.{queue_held}
-use Rattle.zl_calls.specs.declared.process.Process.{Process}
 use Rattle.zl_calls.proofs.objects.Counting.{queues_grown}
 use Rattle.zl_calls.proofs.objects.Grown.{found_grown, grown_in_order, grown_named, still_in_job, unnamed}
 use Rattle.zl_calls.proofs.objects.SameBodies.{still_agrees, still_named}
@@ -47,11 +42,11 @@ module _ (ps : List Process) (m : Map Entry) (r : Objects) (sound : AreSound ps 
       let read : (if n == j then Some (process_value p) else get (map process_entry ps) j) ≡ Some q = sym (get_process j) ∙ at in
       elim (cases_Bool (n == j)) as (λ _. A) [ inl here ↦ new (same_Some (process_value p) q (rw here at read)) | inr apart ↦ old (rw apart at read) ]
 
-  pub new_is : (test : State → Bool) → is_process (world_value after grown) test n ≡ test (state_value p.state)
+  pub new_is : (test : StateValue → Bool) → is_process (world_value after grown) test n ≡ test (state_value p.state)
   unfolding is_process
   new_is test = rw (get_process n, eq-eqb n n refl) refl
 
-  others : (j : ℕ) → (n == j) ≡ false → (test : State → Bool) → is_process (world_value after grown) test j ≡ is_process (world_value ps r) test j
+  others : (j : ℕ) → (n == j) ≡ false → (test : StateValue → Bool) → is_process (world_value after grown) test j ≡ is_process (world_value ps r) test j
   unfolding is_process
   others j apart test = rw (get_process j, apart) refl
 

@@ -1,12 +1,10 @@
 -- No process before a place is unstarted: so it stays, as none becomes so that was made before.
 use Rattle.zl_calls.proofs.Common.{Acted, Action, ActsHere, All-cons, All-head, All-nil, All-tail, Bool, ClosesEnded, EndsBy, HasBegun, IfNone, IfSome, IsSome}
-use Rattle.zl_calls.proofs.Common.{List, None, NoneUnstarted, Objects, Option, Outcome, Policed, Site, Some, Verdict, [], action_asked, answers, ap, arith}
-use Rattle.zl_calls.proofs.Common.{awake, drop, ended_if, ended_within, exits, false, false≢true, get_or, inl, inr, is_created, is_over, is_within_here}
-use Rattle.zl_calls.proofs.Common.{left_beside, left_state, length, lives, lives_on, map, reaches, refl, set, state_value, subst, suc, sym, take, true, waits}
-use Rattle.zl_calls.proofs.Common.{zero, ℕ, ◌&&◌, ◌++◌, ◌∙◌, ◌∷◌, ◌≡◌, ◌≤◌}
+use Rattle.zl_calls.proofs.Common.{List, None, NoneUnstarted, Objects, Option, Outcome, Policed, Process, Site, Some, State, Verdict, [], action_asked, answers}
+use Rattle.zl_calls.proofs.Common.{ap, arith, awake, drop, ended_if, ended_within, exits, false, false≢true, get_or, inl, inr, is_created, is_over}
+use Rattle.zl_calls.proofs.Common.{is_within_here, left_beside, left_state, length, lives, lives_on, map, reaches, refl, set, state_value, subst, suc, sym}
+use Rattle.zl_calls.proofs.Common.{take, true, waits, zero, ℕ, ◌&&◌, ◌++◌, ◌∙◌, ◌∷◌, ◌≡◌, ◌≤◌}
 use Rattle.zl_calls.specs.declared.policy.Verdict.TheVariants as verdict
-use Rattle.zl_calls.specs.declared.process.Process.{Process}
-use Rattle.zl_calls.specs.declared.process.State.{State}
 use Rattle.zl_calls.specs.declared.process.State.TheVariants as state
 
 -- ---- lists

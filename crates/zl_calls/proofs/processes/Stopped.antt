@@ -1,17 +1,12 @@
 -- A process loses handles, or ends: the invariant but for what keeps the objects, and what nothing may keep then.
-use Rattle.zl_calls.proofs.Common.{Agrees, AreKeptBut, AreNamed, AreSound, Bool, Ended, Entry, IsConsistent, IsNamed, IsTable, IsTrue, List, Map, None, Objects}
-use Rattle.zl_calls.proofs.Common.{Option, Releases, Some, [], ap, arith, body_value, cases_Bool, count_by, eq-eqb, eqb-true, false, get, handles_to, has_ended}
-use Rattle.zl_calls.proofs.Common.{has_key, has_key-update, inl, inr, is_in_job, is_process, is_sorted-update, job_in, job_of, kind_of, lives, map, none-some}
-use Rattle.zl_calls.proofs.Common.{object_entry, object_value, process_entry, process_value, queued_to, refl, runs, same_in_job, stopped, stopped_body}
-use Rattle.zl_calls.proofs.Common.{stopped_loose, stopping, subst, sum_by, sym, update, world_value, ℕ, ℤ, ◌+◌, ◌<◌, ◌==◌, ◌∙◌, ◌∷◌, ◌≡◌}
-use Rattle.zl_code.proofs.Common.{Process as ProcessValue, Object as ObjectValue, State}
-use Rattle.zl_objects.specs.declared.object.Body.{Body}
+use Rattle.zl_calls.proofs.Common.{Agrees, AreKeptBut, AreNamed, AreSound, Body, Bool, Ended, EndedHere, Entry, IsConsistent, IsNamed, IsTable, IsTrue, List}
+use Rattle.zl_calls.proofs.Common.{Map, None, Object, ObjectEnds, ObjectValue, Objects, Option, Process, ProcessValue, Releases, Some, StateValue, [], ap}
+use Rattle.zl_calls.proofs.Common.{arith, body_value, cases_Bool, count_by, eq-eqb, eqb-true, false, get, handles_to, has_ended, has_key, has_key-update, inl}
+use Rattle.zl_calls.proofs.Common.{inr, is_in_job, is_process, is_sorted-update, job_in, job_of, kind_of, lives, map, none-some, object_entry, object_value}
+use Rattle.zl_calls.proofs.Common.{process_entry, process_value, queue_held, queued_to, refl, runs, same_in_job, stopped, stopped_body, stopped_loose, stopping}
+use Rattle.zl_calls.proofs.Common.{subst, sum_by, sym, update, world_value, ℕ, ℤ, ◌+◌, ◌<◌, ◌==◌, ◌∙◌, ◌∷◌, ◌≡◌}
 use Rattle.zl_objects.specs.declared.object.Body.TheVariants as body
-use Rattle.zl_objects.specs.declared.object.Object.{Object}
 use Rattle.zl_calls.specs.declared.process.State.TheVariants as state
-use Rattle.zl_calls.specs.declared.process.Process.{Process}
-use Rattle.zl_objects.specs.Objects.{queue_held}
-use Rattle.zl_objects.specs.Release.{Ends as ObjectEnds, EndedHere}
 use Rattle.zl_calls.proofs.calls.Answered.{IsWrite}
 use Rattle.zl_calls.proofs.lists.Updates.{update_unseen}
 use Rattle.zl_calls.proofs.objects.Counting.{counts_fewer, queues}
@@ -65,11 +60,11 @@ module _ {before after : List Process} {p p2 : Process} (write : IsWrite before 
   in_job_stopped b h = same_in_job r.objects ended.objects (jobs_kept stopped still_kind r.objects p.pid) b ∙ h
 
   module _ (code : ℤ) (over : p2.state ≡ state.Ended code) where
-    now : (test : State → Bool) → is_process (world_value after ended) test p.pid ≡ test (Ended code)
+    now : (test : StateValue → Bool) → is_process (world_value after ended) test p.pid ≡ test (Ended code)
     unfolding is_process
     now test = rw (get_after write p.pid, eq-eqb p.pid p.pid refl, over) refl
 
-    others_now : (j : ℕ) → (p.pid == j) ≡ false → (test : State → Bool)
+    others_now : (j : ℕ) → (p.pid == j) ≡ false → (test : StateValue → Bool)
         → is_process (world_value after ended) test j ≡ is_process (world_value before r) test j
     unfolding is_process
     others_now j apart test = rw (get_after write j, apart) refl

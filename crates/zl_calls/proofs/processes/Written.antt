@@ -1,14 +1,10 @@
 -- A process of the list is written: the map by pids, and what the invariant says of processes.
-use Rattle.zl_calls.proofs.Common.{Agrees, AreKeptBut, AreSound, Bool, Entry, Inserts, IsConsistent, IsNamed, IsPlaceOf, IsTable, IsTrue, List, Map}
-use Rattle.zl_calls.proofs.Common.{MatchOption, None, Objects, Option, Some, [], ap, arith, cases_Bool, cond, count_by, eqb-true, false, get, get-update}
-use Rattle.zl_calls.proofs.Common.{get_or, handles_to, has_key-update, inl, inr, is_process, is_sorted-update, length, map, none-some, option_map, position}
-use Rattle.zl_calls.proofs.Common.{process_entry, process_value, refl, same_Some, set, slice_get-get_or, state_passes, state_value, subst, sum_by-cons, sym}
-use Rattle.zl_calls.proofs.Common.{update, world_value, ℕ, ◌+◌, ◌<◌, ◌==◌, ◌∙◌, ◌∷◌, ◌≡◌, ◌⊎◌}
-use Rattle.zl_code.proofs.Common.{Process as ProcessValue, State as StateValue}
-use Rattle.zl_calls.specs.declared.process.State.{State}
-use Rattle.zl_objects.specs.declared.object.Body.{Body}
-use Rattle.zl_calls.specs.World.{free_of}
-use Rattle.zl_calls.specs.declared.process.Process.{Process}
+use Rattle.zl_calls.proofs.Common.{Agrees, AreKeptBut, AreSound, Body, Bool, Entry, Inserts, IsConsistent, IsNamed, IsPlaceOf, IsTable, IsTrue, List, Map}
+use Rattle.zl_calls.proofs.Common.{MatchOption, None, Objects, Option, Process, ProcessValue, Some, State, StateValue, [], ap, arith, cases_Bool, cond}
+use Rattle.zl_calls.proofs.Common.{count_by, eqb-true, false, free_of, get, get-update, get_or, handles_to, has_key-update, inl, inr, is_process}
+use Rattle.zl_calls.proofs.Common.{is_sorted-update, length, map, none-some, option_map, position, process_entry, process_value, refl, same_Some, set}
+use Rattle.zl_calls.proofs.Common.{slice_get-get_or, state_passes, state_value, subst, sum_by-cons, sym, update, world_value, ℕ, ◌+◌, ◌<◌, ◌==◌, ◌∙◌, ◌∷◌, ◌≡◌}
+use Rattle.zl_calls.proofs.Common.{◌⊎◌}
 use Rattle.zl_calls.proofs.calls.Answered.{IsWrite}
 use Rattle.zl_calls.proofs.objects.Counting.{count_put, counts_written, queues}
 use Rattle.zl_calls.proofs.lists.Positions.{IsFirst, first_at, get_first, get_missing, update_first}

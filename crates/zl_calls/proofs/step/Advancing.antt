@@ -1,11 +1,10 @@
 -- What a process did by itself comes back to the world: what stands there for it, and the steps that these instructions are.
-use Rattle.zl_calls.proofs.Common.{Cpu, Err, HavePrograms, IfOk, IsPlaceOf, IsTrue, Library, List, None, Objects, Ok, Option, Program, Result, Runs, Settles}
-use Rattle.zl_calls.proofs.Common.{Some, Stands, World, after_locals, ap, arith, false≢true, get, get_or, is_process, is_ready, is_ready_in, is_some, length}
-use Rattle.zl_calls.proofs.Common.{map, on_process, option_map, process_entry, process_value, refl, replicate, same_Some, set, slice_get, slice_get-get_or}
-use Rattle.zl_calls.proofs.Common.{slice_get_within, state_value, step_programs, step_sound, subst, sym, true, wakes, world_blocked, ℕ, ◌<◌, ◌∙◌, ◌≡◌, ◌≤◌}
-use Rattle.zl_code.proofs.Common.{IsSound}
+use Rattle.zl_calls.proofs.Common.{Cpu, Err, HavePrograms, IfOk, IsPlaceOf, IsSound, IsTrue, Library, List, None, Objects, Ok, Option, Process, Program, Result}
+use Rattle.zl_calls.proofs.Common.{Runs, Settles, Some, Stands, World, after_locals, ap, arith, false≢true, get, get_or, is_process, is_ready, is_ready_in}
+use Rattle.zl_calls.proofs.Common.{is_some, length, map, on_process, option_map, process_entry, process_value, refl, replicate, same_Some, set, slice_get}
+use Rattle.zl_calls.proofs.Common.{slice_get-get_or, slice_get_within, state_value, step_programs, step_sound, subst, sym, true, wakes, world_blocked, ℕ, ◌<◌}
+use Rattle.zl_calls.proofs.Common.{◌∙◌, ◌≡◌, ◌≤◌}
 use Rattle.zl_code.specs.declared.history.TraceItem.TheVariants as item
-use Rattle.zl_calls.specs.declared.process.Process.{Process}
 use Rattle.zl_calls.proofs.step.LocalMoves.{stands, moved_awake, moved_rests, moved_world}
 use Rattle.zl_calls.proofs.step.LocalRuns.{along, locals_run}
 use Rattle.zl_calls.proofs.step.Performing.{AtTurn, ready}

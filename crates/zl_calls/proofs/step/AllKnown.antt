@@ -1,16 +1,14 @@
 -- Behind a step that ended processes each registered wait is left: those of the ended have ended with their handles.
 use Rattle.zl_calls.proofs.Common.{ActsHere, All-contains, All-contains_itself, AreKnown, CallActs, CallName, CalledAmong, Contains, Ends, EndsBy, Entry, Err}
-use Rattle.zl_calls.proofs.Common.{IsSoundWait, IsTrue, Library, List, None, NotesNext, Objects, Ok, Option, Outcome, Parts, Request, Result, Site, Some}
-use Rattle.zl_calls.proofs.Common.{Status, Taken, TaskKillDoes, Verdict, action_asked, acts, and_from, and_parts, ap, asks_again, cases_Bool, entry_at}
-use Rattle.zl_calls.proofs.Common.{eqb-true, false≢true, get, handles_in, has_handle, has_key, has_seen, inl, inr, is_end, is_left, is_made_by_handle, kills}
-use Rattle.zl_calls.proofs.Common.{kills_itself, map, name_of, none-some, parts, process_entry, process_value, refl, same_Some, set, slice_get}
-use Rattle.zl_calls.proofs.Common.{slice_index_or, slice_set, starts, subst, sym, task_kill, true, world_blocked, world_value, ℕ, ℤ, ⊤, ◌&&◌, ◌==◌, ◌∙◌, ◌≡◌}
-use Rattle.zl_rights.specs.World.{Wait}
-use Rattle.zl_code.proofs.Common.{Process as ProcessValue}
+use Rattle.zl_calls.proofs.Common.{IsSoundWait, IsTrue, Library, List, None, NotesNext, Objects, Ok, Option, Outcome, Parts, Process, ProcessValue, Request}
+use Rattle.zl_calls.proofs.Common.{Result, Site, Some, Status, Taken, TaskKillDoes, Verdict, Wait, action_asked, acts, and_from, and_parts, ap, asks_again}
+use Rattle.zl_calls.proofs.Common.{cases_Bool, creates_process, entry_at, eqb-true, false≢true, get, handles_in, has_handle, has_key, has_seen, inl, inr}
+use Rattle.zl_calls.proofs.Common.{is_end, is_left, is_made_by_handle, kills, kills_itself, map, name_of, none-some, parts, process_entry, process_value, refl}
+use Rattle.zl_calls.proofs.Common.{same_Some, set, slice_get, slice_index_or, slice_set, starts, subst, sym, task_kill, true, world_blocked, world_value, ℕ, ℤ}
+use Rattle.zl_calls.proofs.Common.{⊤, ◌&&◌, ◌==◌, ◌∙◌, ◌≡◌}
 use Rattle.zl_code.specs.declared.history.TraceItem.TheVariants as item
-use Rattle.zl_calls.specs.Reaching.{creates_process, policed, reaches}
+use Rattle.zl_calls.specs.Reaching.{policed, reaches}
 use Rattle.zl_calls.specs.declared.policy.Verdict.TheVariants as verdict
-use Rattle.zl_calls.specs.declared.process.Process.{Process}
 use Rattle.zl_calls.proofs.processes.Departed.{handles_left, left_all}
 use Rattle.zl_calls.proofs.processes.Written.{get_after}
 use Rattle.zl_calls.proofs.step.Performing.{AtTurn, HasActed, here, key, there, write_of}

@@ -1,11 +1,10 @@
 -- Any call of a process in the midst of all others: from what was done among them to the relation of steps, up to where processes wake.
 use Rattle.zl_calls.proofs.Common.{AtCall, CallActs, CallName, CalledAmong, Ends, IsCovered, IsStuck, IsVerified, Library, List, Moves, Objects, Outcome, Parts}
-use Rattle.zl_calls.proofs.Common.{STUCK, Site, Some, StaysAwake, acts, ap, calls_at, get_or, is_checked, is_ready, next_for, parts, position, process_value}
-use Rattle.zl_calls.proofs.Common.{refl, same_Some, set, slice_get, slice_get-get_or, state_value, subst, sym, true, world_blocked, world_left, ℕ, ◌==◌, ◌∙◌}
-use Rattle.zl_calls.proofs.Common.{◌≡◌, ◌≢◌}
+use Rattle.zl_calls.proofs.Common.{Process, STUCK, Site, Some, StaysAwake, acts, ap, calls_at, get_or, is_checked, is_ready, next_for, parts, position}
+use Rattle.zl_calls.proofs.Common.{process_value, refl, same_Some, set, slice_get, slice_get-get_or, state_value, subst, sym, true, world_blocked, world_left}
+use Rattle.zl_calls.proofs.Common.{ℕ, ◌==◌, ◌∙◌, ◌≡◌, ◌≢◌}
 use Rattle.zl_code.specs.declared.history.TraceItem.TheVariants as item
 use Rattle.zl_calls.specs.Reaching.{policed, reaches}
-use Rattle.zl_calls.specs.declared.process.Process.{Process}
 use Rattle.zl_calls.proofs.processes.Departed.{left_all}
 use Rattle.zl_calls.proofs.step.AllKnown.{over_left}
 use Rattle.zl_calls.proofs.step.LocalMoves.{moved_stays}

@@ -1,9 +1,9 @@
 -- A call in the midst of all processes, step by step: its policy, then what reaches others, then what it does by itself.
 use Rattle.zl_calls.proofs.Common.{Acted, CallActs, CallInstr, CalledAmong, CallsNext, IfNone, IfSome, IsReachedBy, IsSome, IsTrue, Library, List, None}
-use Rattle.zl_calls.proofs.Common.{Objects, Option, Outcome, Parts, Policed, Reaches, Site, Some, acts, ap, false≢true, get_or, is_sorted, length, map, nat_cmp}
-use Rattle.zl_calls.proofs.Common.{parts, process_entry, refl, same_Some, set, site_of, slice_get, slice_get-get_or, subst, sym, verdict_on, ℕ, ◌<◌, ◌∙◌, ◌≡◌}
+use Rattle.zl_calls.proofs.Common.{Objects, Option, Outcome, Parts, Policed, Process, Reaches, Site, Some, acts, ap, false≢true, get_or, is_sorted, length, map}
+use Rattle.zl_calls.proofs.Common.{nat_cmp, parts, process_entry, refl, same_Some, set, site_of, slice_get, slice_get-get_or, subst, sym, verdict_on, ℕ, ◌<◌}
+use Rattle.zl_calls.proofs.Common.{◌∙◌, ◌≡◌}
 use Rattle.zl_calls.specs.Reaching.{policed, reaches}
-use Rattle.zl_calls.specs.declared.process.Process.{Process}
 use Rattle.zl_calls.proofs.policy.PolicedSteps.{same_pid}
 use Rattle.zl_calls.proofs.processes.InOrder.{set_in_order}
 

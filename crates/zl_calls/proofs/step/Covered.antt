@@ -1,10 +1,9 @@
 -- The processes of checked programs stay as their typings say, behind a step and behind what one of them did by itself.
-use Rattle.zl_calls.proofs.Common.{Bool, IsAbleIn, IsAsTyped, IsCovered, IsVerified, Library, List, Objects, Program, Runs, Some, TakesStep, TraceItem, World}
-use Rattle.zl_calls.proofs.Common.{[], able_of, after_locals, ap, get, is_ready, map, pid_of, process_entry, process_value, program_in, replicate, runs, set}
-use Rattle.zl_calls.proofs.Common.{slice_get, state_value, step_covered, step_sound, subst, sym, true, wakes, world_blocked, ℕ, ◌∙◌, ◌∷◌, ◌≡◌}
-use Rattle.zl_code.proofs.Common.{IsSound}
+use Rattle.zl_calls.proofs.Common.{Bool, IsAbleIn, IsAsTyped, IsCovered, IsSound, IsVerified, Library, List, Objects, Process, Program, Runs, Some, TakesStep}
+use Rattle.zl_calls.proofs.Common.{TraceItem, World, [], able_of, after_locals, ap, get, is_ready, map, pid_of, process_entry, process_value, program_in}
+use Rattle.zl_calls.proofs.Common.{replicate, runs, set, slice_get, state_value, step_covered, step_sound, subst, sym, true, wakes, world_blocked, ℕ, ◌∙◌, ◌∷◌}
+use Rattle.zl_calls.proofs.Common.{◌≡◌}
 use Rattle.zl_code.specs.declared.history.TraceItem.TheVariants as item
-use Rattle.zl_calls.specs.declared.process.Process.{Process}
 use Rattle.zl_calls.proofs.step.Advancing.{advances}
 use Rattle.zl_calls.proofs.step.Performing.{AtTurn, ready_state}
 use Rattle.zl_calls.proofs.step.StepItems.{machine_value}

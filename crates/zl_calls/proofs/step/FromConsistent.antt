@@ -1,13 +1,10 @@
 -- What follows from the invariant of the world, and that it makes a call a step up to where processes wake.
-use Rattle.zl_calls.proofs.Common.{AtCall, CallBy, CallName, Entry, IsActed, IsConsistent, IsNamed, Library, List, Objects, Option, Outcome, PlainCalls, Ready}
-use Rattle.zl_calls.proofs.Common.{Settles, Site, Some, World, arith, get, handles_to, has_place, map, nat_le, nat_tests, next_for, not, plain_refusal}
-use Rattle.zl_calls.proofs.Common.{process_entry, process_value, refl, state_value, subst, sym, world_value, ℕ, ◌^◌, ◌≡◌}
-use Rattle.zl_code.proofs.Common.{Process as ProcessValue}
-use Rattle.zl_code.specs.Calls.{Calls, Choice}
-use Rattle.zl_code.specs.Refusals.{refusal}
+use Rattle.zl_calls.proofs.Common.{AtCall, CallBy, CallName, Calls, Entry, IsActed, IsConsistent, IsNamed, Library, List, Objects, Option, Outcome, PlainCalls}
+use Rattle.zl_calls.proofs.Common.{Process, ProcessValue, Ready, Settles, Site, Some, World, arith, get, handles_to, has_place, map, nat_le, nat_tests}
+use Rattle.zl_calls.proofs.Common.{next_for, not, plain_refusal, process_entry, process_value, refl, refusal, state_value, subst, sym, world_value, ℕ, ◌^◌, ◌≡◌}
+use Rattle.zl_code.specs.Calls.{Choice}
 use Rattle.zl_code.specs.declared.history.TraceItem.TheVariants as item
 use Rattle.zl_calls.proofs.processes.Departed.{settled_world}
-use Rattle.zl_calls.specs.declared.process.Process.{Process}
 
 -- ---- what follows from the invariant
 

@@ -1,7 +1,7 @@
 -- What an answered call takes out of tables: the handles that are taken on every answer, and no other.
 use Rattle.zl_code.specs.Common.{Acts, ok_outcome, refusal}
 use Rattle.zl_calls.proofs.Common.{AtCall, Awaited, Bool, CallBy, CallName, Choice, Contains, Contains-append_right, Entry, IsTrue, Library, List, None, Option}
-use Rattle.zl_calls.proofs.Common.{Outcome, Process, Refused, Request, Settles, Site, Some, Status, Values, Wants, World, [], after_ok, after_refusal, ap}
+use Rattle.zl_calls.proofs.Common.{Outcome, ProcessValue, Refused, Request, Settles, Site, Some, Status, Values, Wants, World, [], after_ok, after_refusal, ap}
 use Rattle.zl_calls.proofs.Common.{arith, awaited_by, cases_Bool, created_process, effect, entering_at, eqb-true, false, false≢true, get, get-each, get-put}
 use Rattle.zl_calls.proofs.Common.{get-update, get-where_key-in, gives_ok, gives_refused, has_handle, has_key, if◌then◌else◌, inl, inr, insert_all, is_end}
 use Rattle.zl_calls.proofs.Common.{is_some, keeping, kept_by, new_handles, not, on_object, on_process, option_map, process_create, process_settled}
@@ -31,18 +31,18 @@ but_then p hs w u v first later k n has = elim (first k n has) as (λ _. Has v k
 
 -- ---- one process is written
 
-written : (w : World) (p : ℕ) (f : Process → Process) → ((x : Process) (v : ℕ) → IsTrue (has_key x.handles v) → IsTrue (has_key (f x).handles v))
+written : (w : World) (p : ℕ) (f : ProcessValue → ProcessValue) → ((x : ProcessValue) (v : ℕ) → IsTrue (has_key x.handles v) → IsTrue (has_key (f x).handles v))
     → Keeps w (on_process w p f)
 unfolding on_process
 written w p f keeps k v has = rw (get-update w.processes p f k) (by_test (p == k) (get w.processes k) has)
   where
-    by_test : (b : Bool) (o : Option Process) → IsTrue (has_handle o v) → IsTrue (has_handle (if b then option_map f o else o) v)
+    by_test : (b : Bool) (o : Option ProcessValue) → IsTrue (has_handle o v) → IsTrue (has_handle (if b then option_map f o else o) v)
     by_test false o there = there
     by_test true None none = none
     by_test true (Some x) there = keeps x v there
 
 -- one handle less
-without_stays : (h : ℕ) (x : Process) (v : ℕ) → IsTrue (has_key x.handles v) → IsTrue (has_key (process_without h x).handles v) ⊎ (v ≡ h)
+without_stays : (h : ℕ) (x : ProcessValue) (v : ℕ) → IsTrue (has_key x.handles v) → IsTrue (has_key (process_without h x).handles v) ⊎ (v ≡ h)
 unfolding without where_key
 without_stays h x v there = elim (cases_Bool (v == h)) as (λ _. IsTrue (has_key (process_without h x).handles v) ⊎ (v ≡ h)) [
   | inl here ↦ inr (eqb-true v h here)
@@ -57,7 +57,7 @@ one_removed : (w : World) (p h : ℕ) (k v : ℕ) → Has w k v → Has (on_proc
 unfolding on_process
 one_removed w p h k v has = rw (get-update w.processes p (process_without h) k) (by_test (cases_Bool (p == k)) (get w.processes k) has)
   where
-    by_test : IsTrue (p == k) ⊎ ((p == k) ≡ false) → (o : Option Process) → IsTrue (has_handle o v)
+    by_test : IsTrue (p == k) ⊎ ((p == k) ≡ false) → (o : Option ProcessValue) → IsTrue (has_handle o v)
         → IsTrue (has_handle (if p == k then option_map (process_without h) o else o) v) ⊎ ((k ≡ p) × (v ≡ h))
     by_test (inr apart) o there = rw apart (inl there)
     by_test (inl here) None none = absurd (false≢true none)
@@ -82,7 +82,7 @@ removed p (h ∷ hs) w k v has =
 
 -- ---- what else a call does
 
-with_stays : (v : ℕ) (e : Entry) (x : Process) (n : ℕ) → IsTrue (has_key x.handles n) → IsTrue (has_key (process_with v e x).handles n)
+with_stays : (v : ℕ) (e : Entry) (x : ProcessValue) (n : ℕ) → IsTrue (has_key x.handles n) → IsTrue (has_key (process_with v e x).handles n)
 with_stays v e x n there = ap is_some (get-put x.handles v e n) ∙ by_key (v == n)
   where
     by_key : (b : Bool) → IsTrue (is_some (if b then Some e else get x.handles n))
@@ -130,7 +130,7 @@ settled : (u v : World) → Settles u v → Keeps u v
 unfolding without_others
 settled u v (K, largest, is) k n has = rw (is, get-each u.processes (process_settled K) k) (by_process (get u.processes k) has)
   where
-    by_process : (o : Option Process) → IsTrue (has_handle o n) → IsTrue (has_handle (option_map (process_settled K k) o) n)
+    by_process : (o : Option ProcessValue) → IsTrue (has_handle o n) → IsTrue (has_handle (option_map (process_settled K k) o) n)
     by_process None none = none
     by_process (Some x) there = there
 
@@ -141,7 +141,7 @@ still_free p k [] w free = free
 still_free p k (h ∷ hs) w free =
     still_free p k hs (on_process w p (process_without h)) (get-update w.processes p (process_without h) k ∙ rw free (by_test (p == k)))
   where
-    by_test : (b : Bool) → ◌≡◌ {A = Option Process} (if b then option_map (process_without h) None else None) None
+    by_test : (b : Bool) → ◌≡◌ {A = Option ProcessValue} (if b then option_map (process_without h) None else None) None
     by_test true = refl
     by_test false = refl
 

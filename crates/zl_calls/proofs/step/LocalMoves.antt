@@ -1,12 +1,9 @@
 -- A ready process gets another Cpu: what is held stays held, no wait ends, and nothing becomes due.
-use Rattle.zl_calls.proofs.Common.{AreBlocked, IsConsistent, IsTrue, List, Map, Objects, Settles, Some, StaysAwake, Wait, World, [], ap, arith, cases_Bool}
-use Rattle.zl_calls.proofs.Common.{false, filter, get, has_key, inl, inr, is_blocked, is_left, is_process, length, list_any, lives, map, nat_tests, on_process}
-use Rattle.zl_calls.proofs.Common.{process_entry, process_value, refl, set, settles_waiting, slice_index_or, state_value, subst, suc, sym, wakes, world_blocked}
-use Rattle.zl_calls.proofs.Common.{world_left, world_value, ℕ, ◌==◌, ◌∙◌, ◌∷◌, ◌≡◌}
-use Rattle.zl_code.proofs.Common.{Process as ProcessValue}
+use Rattle.zl_calls.proofs.Common.{AreBlocked, IsConsistent, IsTrue, List, Map, Objects, Process, ProcessValue, Settles, Some, StaysAwake, Wait, World, [], ap}
+use Rattle.zl_calls.proofs.Common.{arith, cases_Bool, false, filter, get, has_key, inl, inr, is_blocked, is_left, is_left_at_port, is_process, length, list_any}
+use Rattle.zl_calls.proofs.Common.{lives, map, nat_tests, on_process, process_entry, process_value, refl, set, settles_waiting, slice_index_or, state_value}
+use Rattle.zl_calls.proofs.Common.{subst, suc, sym, wakes, world_blocked, world_left, world_value, ℕ, ◌==◌, ◌∙◌, ◌∷◌, ◌≡◌}
 use Rattle.zl_code.proofs.AwakeMoves.{moves_awake}
-use Rattle.zl_code.proofs.StepsWaiting.{is_left as is_left_at_port}
-use Rattle.zl_calls.specs.declared.process.Process.{Process}
 use Rattle.zl_calls.proofs.calls.Answered.{IsWrite}
 use Rattle.zl_calls.proofs.waking.BlockedLists.{still_blocked}
 use Rattle.zl_calls.proofs.processes.Departed.{all_live}

@@ -1,8 +1,8 @@
 -- Local instructions in a row are steps, one after another, where what a process computes with neither holds an object nor wakes anybody.
-use Rattle.zl_calls.proofs.Common.{AtCall, Cpu, IsStuck, Library, List, Map, Moves, Next, None, Option, Program, Ready, Runs, Settles, Some, Step, TraceItem}
-use Rattle.zl_calls.proofs.Common.{World, [], after_locals, ap, cases_Bool, eq-eqb, eqb-true, get, get-update, inl, inr, next_at, none-some, on_process, pid_of}
-use Rattle.zl_calls.proofs.Common.{refl, replicate, same_Some, slice_get, subst, suc, sym, update, wakes, zero, ℕ, ◌++◌, ◌==◌, ◌∙◌, ◌∷◌, ◌≡◌}
-use Rattle.zl_code.proofs.Common.{Process}
+use Rattle.zl_calls.proofs.Common.{AtCall, Cpu, IsStuck, Library, List, Map, Moves, Next, None, Option, ProcessValue, Program, Ready, Runs, Settles, Some, Step}
+use Rattle.zl_calls.proofs.Common.{TraceItem, World, [], after_locals, ap, cases_Bool, eq-eqb, eqb-true, get, get-update, inl, inr, next_at, none-some}
+use Rattle.zl_calls.proofs.Common.{on_process, pid_of, refl, replicate, same_Some, slice_get, subst, suc, sym, update, wakes, zero, ℕ, ◌++◌, ◌==◌, ◌∙◌, ◌∷◌}
+use Rattle.zl_calls.proofs.Common.{◌≡◌}
 use Rattle.zl_code.specs.declared.history.TraceItem.TheVariants as item
 use Rattle.zl_interp.specs.Bursts.{moved_to, then_moved}
 use Rattle.zl_code.proofs.AwakeRuns.{runs_joined}
@@ -44,7 +44,7 @@ moves_there (AtCall call s) d e = absurd (none-some d e)
 moves_there IsStuck d e = absurd (none-some d e)
 
 -- the process p of w is ready, and runs this program
-module _ (lib : Library) (w : World) (p : ℕ) (q : Process) (there : get w.processes p ≡ Some q) (ready : q.state ≡ Ready) (g : Program)
+module _ (lib : Library) (w : World) (p : ℕ) (q : ProcessValue) (there : get w.processes p ≡ Some q) (ready : q.state ≡ Ready) (g : Program)
     (runs : slice_get lib q.program ≡ Some g) where
   -- the world where it has this Cpu
   abbrev pub at : Cpu → World

@@ -1,20 +1,13 @@
 -- A call whose choice is the lab's own, beside registered waits and blocked processes.
-use Rattle.zl_calls.proofs.Common.{ActsAndSettles, AreBlocked, AtCall, CallName, Library, List, Objects, Outcome, Ready, Settles, Some, Wait, World, false}
-use Rattle.zl_calls.proofs.Common.{filter, get, is_blocking, is_process, map, next_for, process_entry, refl, subst, sym, waits_by, with_waiters, world_blocked}
-use Rattle.zl_calls.proofs.Common.{world_left, world_value, ℕ, ◌∙◌, ◌≡◌}
-use Rattle.zl_code.proofs.Common.{IsSound, Process as ProcessValue}
-use Rattle.zl_code.specs.Calls.{CallBy}
-use Rattle.zl_calls.proofs.Common.{KeepSleepers, Option, PlainCalls, Site, plain_refusal}
-use Rattle.zl_code.specs.Refusals.{refusal}
+use Rattle.zl_calls.proofs.Common.{ActsAndSettles, AreBlocked, AtCall, CallBy, CallName, IsOwnDone, IsSound, KeepSleepers, Library, List, Objects, Option}
+use Rattle.zl_calls.proofs.Common.{Outcome, PlainCalls, Process, ProcessValue, Ready, Settles, Site, Some, Wait, World, false, filter, get, is_blocking}
+use Rattle.zl_calls.proofs.Common.{is_left_at_port, is_process, map, next_for, own_beside, plain_refusal, process_entry, refl, refusal, settles_waiting, subst}
+use Rattle.zl_calls.proofs.Common.{sym, tells_want, waits_by, with_waiters, world_blocked, world_left, world_value, ℕ, ◌∙◌, ◌≡◌}
 use Rattle.zl_code.proofs.StepsBeside.{next_looks}
-use Rattle.zl_code.proofs.StepsWaiting.{is_left as is_left_at_port, settles_waiting}
 use Rattle.zl_code.proofs.Waiters.{blocked_after, call_among, waits_after}
 use Rattle.zl_code.specs.declared.history.TraceItem.TheVariants as item
-use Rattle.zl_calls.specs.declared.process.Process.{Process}
 use Rattle.zl_calls.proofs.calls.Owned.{IsOwn, IsOwnCall}
 use Rattle.zl_calls.proofs.processes.Departed.{left_all, settled_world}
-use Rattle.zl_calls.specs.Own.{IsOwnDone, own_beside}
-use Rattle.zl_code.specs.OwnHistory.{tells_want}
 use Rattle.zl_calls.proofs.step.FromConsistent.{IsFree}
 use Rattle.zl_calls.proofs.step.OwnDone.{call_own}
 use Rattle.zl_calls.proofs.waits.LeftWaits.{ListsLeft, left_same}

@@ -1,26 +1,19 @@
 -- What a process did is the lab's own, where its choice is.
-use Rattle.zl_calls.proofs.Common.{AtCall, Bool, CallName, IsStuck, Library, List, Moves, None, Objects, Option, Outcome, Request, Settles, Site, Some, Status}
-use Rattle.zl_calls.proofs.Common.{TraceItem, World, ap, close, false, false≢true, get, map, process_entry, process_value, refl, sym, true, ℕ, ◌∙◌, ◌≡◌}
-use Rattle.zl_code.proofs.Common.{Acts, Choice, Next, Refused, Values, Wants, after_ok, after_refusal, ok_outcome}
-use Rattle.zl_code.specs.CallTable.{new_handles}
-use Rattle.zl_code.specs.Calls.{CallBy, grows, wanted}
-use Rattle.zl_code.specs.Refusals.{refusal}
-use Rattle.zl_code.specs.Own.{OwnWorld, entered_free, free_at, left_free, own_values}
+use Rattle.zl_calls.proofs.Common.{Acts, AtCall, Bool, CallBy, CallName, Choice, FreeBy, IsActed, IsOwnDone, IsStuck, Library, List, Moves, None, Objects}
+use Rattle.zl_calls.proofs.Common.{Option, Outcome, OwnWorld, Process, ProcessValue, Refused, Request, Settles, Settles-exists, Settles-unique, Site, Some}
+use Rattle.zl_calls.proofs.Common.{Status, TraceItem, Values, Wants, World, ap, call_here, close, entered_free, false, false≢true, free_at, free_entry, get}
+use Rattle.zl_calls.proofs.Common.{left_free, map, new_handles, next_for, none-some, own_beside, own_values, process_entry, process_value, refl, refusal}
+use Rattle.zl_calls.proofs.Common.{same_Some, settled, subst, sym, tells_want, true, ℕ, ◌∙◌, ◌≡◌}
+use Rattle.zl_code.proofs.Common.{Next, after_ok, after_refusal, ok_outcome}
+use Rattle.zl_code.specs.Calls.{grows, wanted}
 use Rattle.zl_code.specs.OwnSteps.{own_act, own_call}
 use Rattle.zl_code.specs.declared.history.Outcome.TheVariants as outcome
 use Rattle.zl_code.specs.declared.history.TraceItem.TheVariants as item
-use Rattle.zl_rights.proofs.Settling.{Settles-exists, Settles-unique}
-use Rattle.zl_rights.specs.Settled.{settled}
 use Rattle.zl_rights.specs.declared.status.Status.TheVariants as status
-use Rattle.zl_calls.specs.Own.{FreeBy, IsOwnDone, own_beside}
-use Rattle.zl_code.specs.OwnHistory.{is_want, tells_want}
-use Rattle.zl_calls.specs.World.{free_entry}
-use Rattle.zl_calls.specs.declared.process.Process.{Process}
+use Rattle.zl_code.specs.OwnHistory.{is_want}
 use Rattle.zl_calls.proofs.calls.Owned.{IsOwn, own_in}
-use Rattle.zl_calls.proofs.Common.{IsActed, call_here, next_for, none-some, same_Some, subst}
 use Rattle.zl_calls.proofs.processes.Departed.{left_all}
 use Rattle.zl_calls.proofs.processes.Freed.{left_free_by}
-use Rattle.zl_code.proofs.Common.{Process as ProcessValue}
 
 -- what follows is what the lab leaves
 own_settled : (acted own w2 : World) → Settles acted w2 → acted ≡ own → w2 ≡ settled own

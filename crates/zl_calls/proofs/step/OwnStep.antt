@@ -1,15 +1,12 @@
 -- The step that the lab itself does, once processes woke.
-use Rattle.zl_calls.proofs.Common.{Bool, DoesNext, IsTrue, Library, List, Map, None, Objects, Option, Some, TraceItem, [], ap, cases_Bool, eq-eqb, eqb-true}
-use Rattle.zl_calls.proofs.Common.{false, get, if◌then◌else◌, inl, inr, is_sorted, length, length-map, lives, map, nat_cmp, none-some, option_map, process_at}
+use Rattle.zl_calls.proofs.Common.{Bool, DoesNext, DoesOwn, Free, FreeBy, IsOwnDone, IsTrue, Library, List, Map, None, Objects, Option, OwnWorld, Process, Some}
+use Rattle.zl_calls.proofs.Common.{StepsOwn, TraceItem, World, [], ap, cases_Bool, eq-eqb, eqb-true, false, free_entry, free_of, get, held, if◌then◌else◌, inl}
+use Rattle.zl_calls.proofs.Common.{inr, is_sorted, length, length-map, lives, living, map, nat_cmp, new_free, none-some, option_map, own_beside, process_at}
 use Rattle.zl_calls.proofs.Common.{process_entry, process_value, refl, same_Some, sorted_parts, state_value, sym, wakes, world_blocked, ℕ, ◌==◌, ◌∙◌, ◌∷◌, ◌≡◌}
 use Rattle.zl_calls.proofs.Common.{◌⊎◌}
-use Rattle.zl_code.proofs.Common.{World, next_for}
-use Rattle.zl_code.specs.Own.{OwnWorld, free_in}
+use Rattle.zl_code.proofs.Common.{next_for}
+use Rattle.zl_code.specs.Own.{free_in}
 use Rattle.zl_code.specs.OwnSteps.{own_act, own_behind, own_ending}
-use Rattle.zl_rights.specs.Values.{Free, new_free}
-use Rattle.zl_calls.specs.declared.process.Process.{Process}
-use Rattle.zl_calls.specs.Own.{DoesOwn, FreeBy, IsOwnDone, StepsOwn, living, own_beside}
-use Rattle.zl_calls.specs.World.{free_entry, free_of, held}
 use Rattle.zl_calls.proofs.lists.Updates.{missing_behind}
 use Rattle.zl_calls.proofs.processes.Freed.{entry_there}
 

@@ -1,28 +1,22 @@
 -- A process of the world acts by itself: from the list of processes to the relation of steps, up to where processes wake.
-use Rattle.zl_calls.proofs.Common.{Acted, AreBlocked, AreLeft, AtCall, Body, CallName, DoesNext, Ends, IsActed, IsConsistent, IsStuck, IsTrue, KeepSleepers}
-use Rattle.zl_calls.proofs.Common.{Library, List, Map, Moves, None, Objects, Option, Outcome, Parts, ProcessBody, Ready, STUCK, Settles, Site, Some, TraceItem}
-use Rattle.zl_calls.proofs.Common.{ap, body_in, cases_Bool, false, false≢true, get, get_or, get_or_from_slice_get, has_key, has_seen, inl, inr, is_blocked}
-use Rattle.zl_calls.proofs.Common.{is_blocking, is_process, is_ready, is_some, length, lives, map, next_for, next_looks, none-some, object_entry, on_process}
-use Rattle.zl_calls.proofs.Common.{parts, pid_of, position, process_entry, process_value, refl, set, slice_get, slice_get-get_or, state_passes, state_value}
-use Rattle.zl_calls.proofs.Common.{subst, sym, tells_blocking, then_blocked, true, waits_by, world_blocked, world_left, world_value, ℕ, ◌<◌, ◌==◌, ◌∙◌, ◌≡◌}
-use Rattle.zl_calls.proofs.Common.{◌⊎◌}
-use Rattle.zl_code.proofs.Common.{Object, Process as ProcessValue}
+use Rattle.zl_calls.proofs.Common.{Acted, AreBlocked, AreLeft, AtCall, BodyValue, CallName, DoesNext, DoesOwn, Ends, IsActed, IsConsistent, IsOwnDone, IsSound}
+use Rattle.zl_calls.proofs.Common.{IsStuck, IsTrue, KeepSleepers, Library, List, Map, Moves, None, ObjectValue, Objects, Option, Outcome, Parts, Process}
+use Rattle.zl_calls.proofs.Common.{ProcessBody, ProcessValue, Ready, STUCK, Settles, Site, Some, State, TraceItem, ap, body_in, call_here, cases_Bool, false}
+use Rattle.zl_calls.proofs.Common.{false≢true, free_at, free_entry, get, get_or, get_or_from_slice_get, has_key, has_seen, inl, inr, is_blocked, is_blocking}
+use Rattle.zl_calls.proofs.Common.{is_process, is_ready, is_some, length, lives, map, next_for, next_looks, none-some, object_entry, on_process, own_beside}
+use Rattle.zl_calls.proofs.Common.{parts, pid_of, position, process_entry, process_value, refl, same_Some, set, slice_get, slice_get-get_or, state_passes}
+use Rattle.zl_calls.proofs.Common.{state_value, subst, sym, tells_blocking, tells_want, then_blocked, true, waits_by, world_blocked, world_left, world_value, ℕ}
+use Rattle.zl_calls.proofs.Common.{◌<◌, ◌==◌, ◌∙◌, ◌≡◌, ◌⊎◌}
 use Rattle.zl_code.specs.declared.history.Outcome.TheVariants as outcome
 use Rattle.zl_code.specs.declared.history.TraceItem.TheVariants as item
-use Rattle.zl_calls.specs.declared.process.State.{State}
 use Rattle.zl_calls.specs.declared.process.State.TheVariants as state
-use Rattle.zl_calls.specs.declared.process.Process.{Process}
 use Rattle.zl_calls.proofs.calls.Answered.{IsWrite}
 use Rattle.zl_calls.proofs.waking.BlockedLists.{still_blocked, same_list}
 use Rattle.zl_calls.proofs.waits.EndedWaits.{acted_over, ended_none, over_none}
 use Rattle.zl_calls.proofs.waits.LeftWaits.{ListsLeft, left_beside, left_looking, lists_left}
 use Rattle.zl_calls.proofs.waits.WaitsByCall.{acted_lists}
-use Rattle.zl_code.specs.Sound.{IsSound}
 use Rattle.zl_calls.proofs.calls.DoneCalls.{IsDone}
-use Rattle.zl_calls.proofs.Common.{call_here, same_Some}
 use Rattle.zl_calls.proofs.processes.Freed.{free_written}
-use Rattle.zl_calls.specs.World.{free_entry}
-use Rattle.zl_code.specs.Own.{free_at}
 use Rattle.zl_calls.proofs.calls.ProcessCalls.{ends_keeps, over_free, stuck_steps}
 use Rattle.zl_calls.proofs.calls.Performed.{Looks, acted_asleep, acted_done, acted_looks, same_pid, still_unblocked}
 use Rattle.zl_calls.proofs.waking.Sleeping.{IsAsleep, asleep_acts, asleep_own, asleep_keeps, asleep_list}
@@ -33,8 +27,6 @@ use Rattle.zl_calls.proofs.step.FromConsistent.{IsFree, freely}
 use Rattle.zl_calls.proofs.objects.Settled.{still_settles}
 use Rattle.zl_calls.proofs.processes.Written.{alike_states, write_at, pid_read, refusal_keeps}
 use Rattle.zl_calls.proofs.lists.Positions.{first_at}
-use Rattle.zl_calls.specs.Own.{DoesOwn, IsOwnDone, own_beside}
-use Rattle.zl_code.specs.OwnHistory.{tells_want}
 
 pub ready_state : (s : State) → is_ready (state_value s) ≡ true → state_value s ≡ Ready
 ready_state state.Ready h = refl
@@ -58,7 +50,7 @@ pub object_there : (ps : List Process) (r : Objects) (blocked : List ℕ) → Is
     → IsTrue (state_passes lives (get (map process_entry ps) k)) → IsTrue (has_key r.objects k)
 object_there ps r blocked sound k living = by_process (get (map process_entry ps) k) refl living
   where
-    by_object : (o : Option Object) (b : Body) → body_in o ≡ Some b → IsTrue (is_some o)
+    by_object : (o : Option ObjectValue) (b : BodyValue) → body_in o ≡ Some b → IsTrue (is_some o)
     by_object None b there = absurd (none-some b there)
     by_object (Some o) b there = refl
 

@@ -1,11 +1,10 @@
 -- Where a process stands in the list, and what stands next for it.
-use Rattle.zl_calls.proofs.Common.{CallInstr, CallsNext, IsSome, Library, List, None, Option, Program, Site, Some, ap, arith, call_at, call_here, call_row}
-use Rattle.zl_calls.proofs.Common.{calls_at, false, false≢true, get_or, get_or_from_slice_get, has_its_memory, is_some, length, map, next_for, process_entry}
-use Rattle.zl_calls.proofs.Common.{process_value, refl, site_of, slice_get, slice_get-map, slice_get_read, stands_next, subst, sym, true, ℕ, ◌<◌, ◌^◌, ◌∙◌, ◌≡◌}
-use Rattle.zl_code.proofs.Common.{Process as ProcessValue}
+use Rattle.zl_calls.proofs.Common.{CallInstr, CallsNext, IsSome, Library, List, None, Option, Process, ProcessValue, Program, Site, Some, ap, arith, call_at}
+use Rattle.zl_calls.proofs.Common.{call_here, call_row, calls_at, false, false≢true, get_or, get_or_from_slice_get, has_its_memory, is_some, length, map}
+use Rattle.zl_calls.proofs.Common.{next_for, process_entry, process_value, refl, site_of, slice_get, slice_get-map, slice_get_read, stands_next, subst, sym}
+use Rattle.zl_calls.proofs.Common.{true, ℕ, ◌<◌, ◌^◌, ◌∙◌, ◌≡◌}
 use Rattle.zl_interp.proofs.Standing.{comes, no_call}
 use Rattle.zl_verify.proofs.Sites.{has_site}
-use Rattle.zl_calls.specs.declared.process.Process.{Process}
 
 -- ---- reads of the list
 

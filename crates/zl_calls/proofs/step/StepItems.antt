@@ -1,12 +1,11 @@
 -- What the item of a step tells of the process: which call it did, that it ran, or that it was stuck.
-use Rattle.zl_calls.specs.World.{free_entry}
-use Rattle.zl_calls.proofs.Common.{AtCall, CallInstr, CallName, Cpu, DoesNext, EndsUnheld, HaveLeft, HavePrograms, IfNone, IfSome, IsStuck, IsTrue, Library}
-use Rattle.zl_calls.proofs.Common.{List, Machine, Moves, Next, None, Objects, Option, Outcome, Performs, Program, Site, Some, Step, StepsAndWakes, StepsTo}
-use Rattle.zl_calls.proofs.Common.{TakesStep, TraceItem, Woke, ap, asks_again, call_for, call_here, call_of, call_row, calls_at, false, false≢true, fired, fold}
-use Rattle.zl_calls.proofs.Common.{get, instr_at, is_local, is_process, is_ready, is_ready_in, local_effect, map, name_of, next_at, next_for, pid_of}
-use Rattle.zl_calls.proofs.Common.{process_entry, refl, site_of, slice_get, state_passes, step_awake, step_programs, step_sound, subst, sym, takes_memory}
-use Rattle.zl_calls.proofs.Common.{then_blocked, true, wakes, woken, world_blocked, world_left, ℕ, ◌∙◌, ◌≡◌}
-use Rattle.zl_code.proofs.Common.{Acts, World, Process as ProcessValue}
+use Rattle.zl_calls.proofs.Common.{Acts, AtCall, CallInstr, CallName, Cpu, DoesNext, EndsUnheld, HaveLeft, HavePrograms, IfNone, IfSome, IsSound, IsStuck}
+use Rattle.zl_calls.proofs.Common.{IsTrue, Library, List, Machine, Moves, Next, None, Objects, Option, Outcome, Performs, Process, ProcessValue, Program, Site}
+use Rattle.zl_calls.proofs.Common.{Some, Step, StepsAndWakes, StepsTo, TakesStep, TraceItem, Woke, World, ap, asks_again, call_for, call_here, call_of}
+use Rattle.zl_calls.proofs.Common.{call_row, calls_at, false, false≢true, fired, fold, free_entry, get, instr_at, is_local, is_process, is_ready, is_ready_in}
+use Rattle.zl_calls.proofs.Common.{local_effect, map, name_of, next_at, next_for, pid_of, process_entry, refl, site_of, slice_get, state_passes, step_awake}
+use Rattle.zl_calls.proofs.Common.{step_programs, step_sound, subst, sym, takes_memory, then_blocked, true, wakes, woken, world_blocked, world_left, ℕ, ◌∙◌}
+use Rattle.zl_calls.proofs.Common.{◌≡◌}
 use Rattle.zl_rights.specs.declared.status.Status.TheVariants as status
 use Rattle.zl_code.specs.declared.history.Outcome.TheVariants as outcome
 use Rattle.zl_code.specs.declared.history.TraceItem.TheVariants as item
@@ -14,8 +13,6 @@ use Rattle.zl_code.specs.declared.instr.Instr.{Instr}
 use Rattle.zl_code.specs.declared.instr.Instr.TheVariants as instr
 use Rattle.zl_code.specs.Steps.{moves, next_of, next_in}
 use Rattle.zl_code.proofs.Stepping.{wanting_step}
-use Rattle.zl_calls.specs.declared.process.Process.{Process}
-use Rattle.zl_code.specs.Sound.{IsSound}
 use Rattle.zl_calls.specs.declared.waking.Woke.TheVariants as woke
 
 -- ---- the process that acts, and the item

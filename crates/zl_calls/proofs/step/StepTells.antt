@@ -1,11 +1,10 @@
 -- What a step tells of who became ready: who woke, and whom it started.
-use Rattle.zl_calls.proofs.Common.{CallName, CalledAmong, Library, List, Machine, None, NotesNextChild, NotesStarted, Objects, Option, Outcome, Parts, Some}
-use Rattle.zl_calls.proofs.Common.{StepsAndTells, StepsAndWakes, Taken, TraceItem, Woke, ap, calls_at, child_next, get, get_or, if_started, is_local, next_for}
-use Rattle.zl_calls.proofs.Common.{position, process_value, refl, same_Some, subst, sym, true, with_started, world_blocked, ℕ, ◌==◌, ◌∙◌, ◌≡◌}
-use Rattle.zl_code.proofs.Common.{Process as ProcessValue}
+use Rattle.zl_calls.proofs.Common.{CallName, CalledAmong, Library, List, Machine, None, NotesNextChild, NotesStarted, Objects, Option, Outcome, Parts, Process}
+use Rattle.zl_calls.proofs.Common.{ProcessValue, Some, StepsAndTells, StepsAndWakes, Taken, TraceItem, Woke, ap, calls_at, child_next, get, get_or, if_started}
+use Rattle.zl_calls.proofs.Common.{is_local, next_for, position, process_value, refl, same_Some, subst, sym, true, with_started, world_blocked, ℕ, ◌==◌, ◌∙◌}
+use Rattle.zl_calls.proofs.Common.{◌≡◌}
 use Rattle.zl_code.specs.declared.history.CallName.TheVariants as name
 use Rattle.zl_code.specs.declared.history.TraceItem.TheVariants as item
-use Rattle.zl_calls.specs.declared.process.Process.{Process}
 use Rattle.zl_calls.proofs.step.Performing.{stands_there}
 
 -- what is so of a start is so of the item

@@ -1,11 +1,10 @@
 -- What is known of the calls of a checked program, as its process is as its typing says: no operand has a fault, and no policy ends them.
 use Rattle.zl_calls.proofs.Common.{AtCall, CallName, CallsSurely, Image, IsAsTyped, IsCovered, IsStuck, IsSure, IsSureIfChecked, IsVerified, Library, List}
-use Rattle.zl_calls.proofs.Common.{None, Objects, Option, Program, Site, Some, World, ap, calls_at, is_checked, next_for, not_stuck, process_value, program_in}
-use Rattle.zl_calls.proofs.Common.{refl, runs, site_of, slice_get, subst, sym, true, world_blocked, ℕ, ◌∙◌, ◌≡◌, ◌≢◌}
+use Rattle.zl_calls.proofs.Common.{None, Objects, Option, Process, Program, Site, Some, World, ap, calls_at, is_checked, next_for, not_stuck, process_value}
+use Rattle.zl_calls.proofs.Common.{program_in, refl, runs, site_of, slice_get, subst, sym, true, world_blocked, ℕ, ◌∙◌, ◌≡◌, ◌≢◌}
 use Rattle.zl_verify.specs.CallLaws.{StandsAtCall}
 use Rattle.zl_verify.proofs.OwnCalls.{operands_pass, policy_passes}
 use Rattle.zl_verify.proofs.SizedWorlds.{queues_sized}
-use Rattle.zl_calls.specs.declared.process.Process.{Process}
 use Rattle.zl_calls.proofs.policy.Freedom.{is_seen}
 use Rattle.zl_calls.proofs.policy.Policies.{IsSeen, faultless, unjudged}
 use Rattle.zl_calls.proofs.step.Performing.{AtTurn, is_caller, itself, ready}

@@ -1,25 +1,21 @@
 -- Behind a call that ends no process each registered wait is left, or its caller made it by a handle that the call took.
-use Rattle.zl_calls.proofs.Common.{ActsHere, All, All-append, All-cons, All-contains, All-filter, All-nil, AreKnown, AtCall, Bool, CallActs, CallName}
-use Rattle.zl_calls.proofs.Common.{CalledAmong, Contains, Does, DoesNext, EndsBy, EndsUnheld, Entry, Err, Handles, IsKnown, IsNoted, IsTrue, KeepsListed}
-use Rattle.zl_calls.proofs.Common.{Library, List, ListsBut, None, NotesNext, Objects, Ok, Option, Outcome, Parts, ProcessCreateDoes, ProcessStartDoes, Request}
-use Rattle.zl_calls.proofs.Common.{Result, Site, Some, Status, Taken, TraceItem, Verdict, WAIT, [], action_asked, acts, and_from, and_parts, ap, arith}
-use Rattle.zl_calls.proofs.Common.{asks_again, calls_at, cases_Bool, chan_write, chan_write_slots, close, entry_at, false, false≢true, get, handle_operands}
-use Rattle.zl_calls.proofs.Common.{handles_in, has_handle, has_key, has_noted, has_seen, inl, inr, is_empty, is_end, is_left, is_made_by_handle, is_some}
-use Rattle.zl_calls.proofs.Common.{is_there, keeps_handles, kills, kills_itself, looks_at_waits, map, name_of, next_for, none-some, not, parts, port_cancel}
-use Rattle.zl_calls.proofs.Common.{process_entry, process_start, process_value, refl, replace, same_Some, slice_get, slice_index_or, starts, subst, sym}
-use Rattle.zl_calls.proofs.Common.{taken_handles, task_kill, then_blocked, true, true≢false, wait_async, waits_after, world_blocked, world_left, world_value, ℕ}
-use Rattle.zl_calls.proofs.Common.{⊤, ◌<◌, ◌∙◌, ◌∷◌, ◌≡◌}
-use Rattle.zl_code.proofs.Common.{Process as ProcessValue, World, Acts}
+use Rattle.zl_calls.proofs.Common.{Acts, ActsHere, All, All-append, All-cons, All-contains, All-filter, All-nil, AreKnown, AtCall, Bool, CallActs, CallName}
+use Rattle.zl_calls.proofs.Common.{CalledAmong, Contains, Does, DoesNext, DoesOwn, EndsBy, EndsUnheld, Entry, Err, Handles, IsKnown, IsNoted, IsTrue}
+use Rattle.zl_calls.proofs.Common.{KeepsListed, Library, List, ListsBut, None, NotesNext, Objects, Ok, Option, Outcome, Parts, Process, ProcessCreateDoes}
+use Rattle.zl_calls.proofs.Common.{ProcessStartDoes, ProcessValue, Request, Result, Site, Some, Status, Taken, TraceItem, Verdict, WAIT, Wait, World, []}
+use Rattle.zl_calls.proofs.Common.{action_asked, acts, and_from, and_parts, ap, arith, asks_again, calls_at, cases_Bool, chan_write, chan_write_slots, close}
+use Rattle.zl_calls.proofs.Common.{creates_process, entry_at, false, false≢true, get, handle_operands, handles_in, has_handle, has_key, has_noted, has_seen}
+use Rattle.zl_calls.proofs.Common.{inl, inr, is_empty, is_end, is_left, is_made_by_handle, is_some, is_there, keeps_handles, kills, kills_itself}
+use Rattle.zl_calls.proofs.Common.{looks_at_waits, map, name_of, next_for, none-some, not, own_beside, parts, port_cancel, process_entry, process_start}
+use Rattle.zl_calls.proofs.Common.{process_value, refl, replace, same_Some, slice_get, slice_index_or, starts, subst, sym, taken_handles, task_kill}
+use Rattle.zl_calls.proofs.Common.{then_blocked, true, true≢false, wait_async, waits_after, world_blocked, world_left, world_value, ℕ, ⊤, ◌<◌, ◌∙◌, ◌∷◌, ◌≡◌}
 use Rattle.zl_code.specs.declared.history.CallName.TheVariants as name
 use Rattle.zl_code.specs.declared.history.Outcome.TheVariants as outcome
 use Rattle.zl_code.specs.declared.history.TraceItem.TheVariants as item
 use Rattle.zl_rights.specs.declared.status.Status.TheVariants as status
-use Rattle.zl_rights.specs.World.{Wait}
-use Rattle.zl_calls.specs.Reaching.{creates_process, policed, reaches}
+use Rattle.zl_calls.specs.Reaching.{policed, reaches}
 use Rattle.zl_calls.specs.Calling.{OwnWaits}
-use Rattle.zl_calls.specs.Own.{DoesOwn, own_beside}
 use Rattle.zl_calls.specs.declared.policy.Verdict.TheVariants as verdict
-use Rattle.zl_calls.specs.declared.process.Process.{Process}
 use Rattle.zl_calls.proofs.processes.Departed.{left_all}
 use Rattle.zl_calls.proofs.step.HandlesStay.{KeepsBut, acted_keeps, spares}
 use Rattle.zl_calls.proofs.step.Performing.{AtTurn, HasActed, is_caller, key, there}

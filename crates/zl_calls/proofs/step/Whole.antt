@@ -1,11 +1,9 @@
 -- The invariant of the world behind each step, whether something was due or not.
-use Rattle.zl_calls.proofs.Common.{AreBlocked, AreLeft, AreOrdered, AreSought, DoesNext, EndsUnheld, FiresWaits, IsConsistent, IsWhole, KeepSleepers, Library}
-use Rattle.zl_calls.proofs.Common.{List, Objects, Seeks, StepsAndWakes, TakesStep, TraceItem, Wakes, Woke, ap, awaited_of, false, fired, holds_now, is_due}
-use Rattle.zl_calls.proofs.Common.{length, list_any, refl, sym, then_blocked, wakes, world_blocked, world_left, ℕ, ◌∙◌, ◌≡◌, ◌≤◌}
+use Rattle.zl_calls.proofs.Common.{AreBlocked, AreLeft, AreOrdered, AreSought, DoesNext, DoesOwn, EndsUnheld, FallsAsleep, FiresWaits, IsConsistent, IsWhole}
+use Rattle.zl_calls.proofs.Common.{KeepSleepers, Library, List, Objects, Process, Seeks, StepsAndWakes, StepsOwn, TakesStep, TraceItem, Wakes, Woke, ap}
+use Rattle.zl_calls.proofs.Common.{awaited_of, false, fired, holds_now, is_due, length, list_any, own_beside, refl, sym, then_blocked, wakes, world_blocked}
+use Rattle.zl_calls.proofs.Common.{world_left, ℕ, ◌∙◌, ◌≡◌, ◌≤◌}
 use Rattle.zl_objects.specs.declared.awaited.Awaited.{Awaited}
-use Rattle.zl_calls.specs.Blocking.{FallsAsleep}
-use Rattle.zl_calls.specs.Own.{DoesOwn, StepsOwn, own_beside}
-use Rattle.zl_calls.specs.declared.process.Process.{Process}
 use Rattle.zl_calls.specs.declared.waking.Woke.TheVariants as woke
 use Rattle.zl_calls.proofs.objects.SameButWaits.{beside_consistent}
 use Rattle.zl_calls.proofs.step.Covered.{stepped_covered}

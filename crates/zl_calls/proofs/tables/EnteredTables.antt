@@ -1,8 +1,7 @@
 -- A table that handles entered one after another: the invariant, the counts, and the same in a process.
-use Rattle.zl_calls.proofs.Common.{All, All-head, All-tail, Entry, Handles, IfSome, InsertsEach, IsTable, IsTrue, List, Map, None, Option, Some, [], ap, arith}
-use Rattle.zl_calls.proofs.Common.{cond, count_by, eq-eqb, get, length, may_get, may_get_after, may_get_all, nat_tests, process_with, process_with_all, refl}
-use Rattle.zl_calls.proofs.Common.{subst, sum_by-cons, sym, true, ℕ, ◌+◌, ◌==◌, ◌∙◌, ◌∷◌, ◌≡◌, ◌≤◌}
-use Rattle.zl_code.proofs.Common.{Process}
+use Rattle.zl_calls.proofs.Common.{All, All-head, All-tail, Entry, Handles, IfSome, InsertsEach, IsTable, IsTrue, List, Map, None, Option, ProcessValue, Some}
+use Rattle.zl_calls.proofs.Common.{[], ap, arith, cond, count_by, eq-eqb, get, length, may_get, may_get_after, may_get_all, nat_tests, process_with}
+use Rattle.zl_calls.proofs.Common.{process_with_all, refl, subst, sum_by-cons, sym, true, ℕ, ◌+◌, ◌==◌, ◌∙◌, ◌∷◌, ◌≡◌, ◌≤◌}
 use Rattle.zl_calls.proofs.objects.Counting.{count_put}
 use Rattle.zl_calls.proofs.tables.Tables.{found_inserted, inserted_table}
 use Rattle.zl_calls.proofs.tables.Taking.{one_longer}
@@ -44,7 +43,7 @@ counts_entered j t u (x ∷ es) (y ∷ vs) so_far =
 
 -- ---- the same in a process
 
-pub all_given : (t u : Handles) (es : List Entry) (vs : List ℕ) (q : Process) → InsertsEach t es vs u
+pub all_given : (t u : Handles) (es : List Entry) (vs : List ℕ) (q : ProcessValue) → InsertsEach t es vs u
     → process_with_all es vs (with_table t q) ≡ with_table u q
 all_given t u [] [] q so_far = ap (λ (x : Handles). with_table x q) (sym so_far)
 all_given t u [] (y ∷ vs) q so_far = absurd so_far
@@ -54,7 +53,7 @@ all_given t u (x ∷ es) (y ∷ vs) q so_far =
     ∙ all_given so_far.between u es vs q so_far.rest
 
 -- each may get its value
-pub all_chosen : (t u : Handles) (es : List Entry) (vs : List ℕ) (q : Process) → InsertsEach t es vs u → may_get_all (with_table t q) es vs ≡ true
+pub all_chosen : (t u : Handles) (es : List Entry) (vs : List ℕ) (q : ProcessValue) → InsertsEach t es vs u → may_get_all (with_table t q) es vs ≡ true
 all_chosen t u [] [] q so_far = refl
 all_chosen t u [] (y ∷ vs) q so_far = absurd so_far
 all_chosen t u (x ∷ es) [] q so_far = absurd so_far

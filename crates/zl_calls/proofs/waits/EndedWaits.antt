@@ -1,8 +1,7 @@
 -- A step that ends its process: no wait of it is left, and all else that was there is left still.
-use Rattle.zl_calls.proofs.Common.{Action, ActsHere, Exits, IsTrue, List, Objects, Outcome, Site, [], action_asked, and_parts, answers, ap, eq-eqb, eqb-true}
-use Rattle.zl_calls.proofs.Common.{exits, false, false≢true, get, has_handle, inl, inr, is_end, map, process_entry, reaches, refl, subst, sym, true, waits, ℕ}
-use Rattle.zl_calls.proofs.Common.{ℤ, ◌&&◌, ◌==◌, ◌∙◌, ◌≡◌}
-use Rattle.zl_calls.specs.declared.process.Process.{Process}
+use Rattle.zl_calls.proofs.Common.{Action, ActsHere, Exits, IsTrue, List, Objects, Outcome, Process, Site, [], action_asked, and_parts, answers, ap, eq-eqb}
+use Rattle.zl_calls.proofs.Common.{eqb-true, exits, false, false≢true, get, has_handle, inl, inr, is_end, map, process_entry, reaches, refl, subst, sym, true}
+use Rattle.zl_calls.proofs.Common.{waits, ℕ, ℤ, ◌&&◌, ◌==◌, ◌∙◌, ◌≡◌}
 use Rattle.zl_calls.proofs.calls.Answered.{IsWrite}
 use Rattle.zl_calls.proofs.processes.Departed.{handles_left, left_all}
 use Rattle.zl_calls.proofs.processes.Written.{get_after}

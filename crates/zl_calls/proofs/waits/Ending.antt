@@ -1,11 +1,9 @@
 -- Waits end one after another: the objects stay the same but for waits, and of the list just what isn't to end is left.
-use Rattle.zl_calls.proofs.Common.{AreBeside, Bool, EndsUnheld, EndsWaits, IsConsistent, IsPlaceOf, KeepSleepers, List, Map, None, Objects, Option, Some, Wait}
-use Rattle.zl_calls.proofs.Common.{Watch, World, and_parts, ap, arith, eq-eqb, eqb-true, false, filter, get, get_or, has_handle, has_key, has_seen, is_keyed_at}
-use Rattle.zl_calls.proofs.Common.{is_left, is_made_by_handle, is_some, kind_here, kind_in, length, map, not, object_entry, option_map, process_entry}
-use Rattle.zl_calls.proofs.Common.{process_value, refl, slice_get, slice_get-get_or, slice_get_within, subst, sym, true, unlisting, unwatching, world_value, ℕ}
-use Rattle.zl_calls.proofs.Common.{◌&&◌, ◌*◌, ◌+◌, ◌-◌, ◌<◌, ◌==◌, ◌∙◌, ◌≡◌}
-use Rattle.zl_objects.specs.declared.object.Object.{Object}
-use Rattle.zl_calls.specs.declared.process.Process.{Process}
+use Rattle.zl_calls.proofs.Common.{AreBeside, Bool, EndsUnheld, EndsWaits, IsConsistent, IsPlaceOf, KeepSleepers, List, Map, None, Object, Objects, Option}
+use Rattle.zl_calls.proofs.Common.{Process, Some, Wait, Watch, World, and_parts, ap, arith, eq-eqb, eqb-true, false, filter, get, get_or, has_handle, has_key}
+use Rattle.zl_calls.proofs.Common.{has_seen, is_keyed_at, is_left, is_made_by_handle, is_some, kind_here, kind_in, length, map, not, object_entry, option_map}
+use Rattle.zl_calls.proofs.Common.{process_entry, process_value, refl, slice_get, slice_get-get_or, slice_get_within, subst, sym, true, unlisting, unwatching}
+use Rattle.zl_calls.proofs.Common.{world_value, ℕ, ◌&&◌, ◌*◌, ◌+◌, ◌-◌, ◌<◌, ◌==◌, ◌∙◌, ◌≡◌}
 use Rattle.zl_calls.proofs.objects.SameButWaits.{beside_consistent, beside_then, beside_world, unwatching_beside}
 use Rattle.zl_calls.proofs.lists.FilterByFirst.{IsSifting, one_less, sifting_ends, sifting_stays, sifting_takes}
 

@@ -1,12 +1,12 @@
 -- One registered wait that holds gives its packet before the others do: the world at the end is the same.
-use Rattle.zl_calls.proofs.Common.{Body, Bool, IsTrue, List, Map, None, Object, Option, Packet, PortBody, Some, Wait}
-use Rattle.zl_calls.proofs.Common.{World, [], active, active_of, ap, append_assoc, bit_or, body_packed, body_with_packets, cases_Bool}
-use Rattle.zl_calls.proofs.Common.{cond, each, eqb-true, false, filter, filter-append, fired, get, get-each, get-update, has_child_job}
-use Rattle.zl_calls.proofs.Common.{has_child_process, has_key-update, holds, if◌then◌else◌, implied, inl, inr, is_job_below, is_process, is_process_of}
-use Rattle.zl_calls.proofs.Common.{is_sorted, is_sorted-update, list_any, list_any-and, lives, map, meets, nat_cmp, not, option_map, packet_of, packets_for}
-use Rattle.zl_calls.proofs.Common.{passes, refl, repacked, same_map, sym, true, update, ℕ, ◌&&◌, ◌++◌, ◌==◌, ◌||◌, ◌∙◌, ◌∷◌, ◌≡◌}
+use Rattle.zl_calls.proofs.Common.{BodyValue, Bool, IsTrue, List, Map, None, ObjectValue, Option, Packet, PortBody, Some, Wait, World, [], active, active_of}
+use Rattle.zl_calls.proofs.Common.{active_of-same, ap, append_assoc, bit_or, body_packed, body_with_packets, cases_Bool, cond, each, eqb-true, false, filter}
+use Rattle.zl_calls.proofs.Common.{filter-append, fired, get, get-each, get-update, has_child_job, has_child_process, has_key-update, holds, if◌then◌else◌}
+use Rattle.zl_calls.proofs.Common.{implied, inl, inr, is_job_below, is_process, is_process_of, is_sorted, is_sorted-update, list_any, list_any-and, lives, map}
+use Rattle.zl_calls.proofs.Common.{meets, nat_cmp, not, option_map, packet_of, packets_for, passes, refl, repacked, same_map, sym, true, update, ℕ, ◌&&◌, ◌++◌}
+use Rattle.zl_calls.proofs.Common.{◌==◌, ◌||◌, ◌∙◌, ◌∷◌, ◌≡◌}
 use Rattle.zl_rights.proofs.MapTests.{filter_none}
-use Rattle.zl_rights.proofs.SameSignals.{IsAlike, active_of-same}
+use Rattle.zl_rights.proofs.SameSignals.{IsAlike}
 use Rattle.zl_code.proofs.MapKept.{in_order-each}
 
 -- ---- changes of a map
@@ -23,20 +23,20 @@ any_updated test f same (e ∷ m) k = elim (cases_Bool (e.0 == k)) as (λ _. lis
 -- ---- packets at one object
 
 module _ (f : List Packet → List Packet) where
-  implied_packed : (w : World) (k : ℕ) (b : Body) → implied w k (body_packed f b) ≡ implied w k b
+  implied_packed : (w : World) (k : ℕ) (b : BodyValue) → implied w k (body_packed f b) ≡ implied w k b
   implied_packed w k (PortBody packets) = refl
   implied_packed w k _ = refl
 
-  job_packed : (job : ℕ) (b : Body) → is_job_below job (body_packed f b) ≡ is_job_below job b
+  job_packed : (job : ℕ) (b : BodyValue) → is_job_below job (body_packed f b) ≡ is_job_below job b
   job_packed job (PortBody packets) = refl
   job_packed job _ = refl
 
-  process_packed : (job : ℕ) (b : Body) → is_process_of job (body_packed f b) ≡ is_process_of job b
+  process_packed : (job : ℕ) (b : BodyValue) → is_process_of job (body_packed f b) ≡ is_process_of job b
   process_packed job (PortBody packets) = refl
   process_packed job _ = refl
 
 -- the first packet goes behind those that are there, and then the rest
-body_split : (all rest : List Packet) (p : Packet) → all ≡ p ∷ rest → (b : Body)
+body_split : (all rest : List Packet) (p : Packet) → all ≡ p ∷ rest → (b : BodyValue)
     → body_with_packets all b ≡ body_with_packets rest (body_packed (λ ps. ps ++ p ∷ []) b)
 body_split all rest p split (PortBody ps) = ap PortBody (ap (λ more. ps ++ more) split ∙ sym (append_assoc ps (p ∷ []) rest))
 body_split all rest p split _ = refl
@@ -44,7 +44,7 @@ body_split all rest p split _ = refl
 -- ---- the wait x holds, and none before it
 
 module _ (w : World) (xs ys : List Wait) (x : Wait) where
-  abbrev with_one : Object → Object
+  abbrev with_one : ObjectValue → ObjectValue
   with_one = repacked (λ (ps : List Packet). ps ++ packet_of w x ∷ [])
 
   -- the world in which it has given its packet and is gone
@@ -66,12 +66,12 @@ module _ (w : World) (xs ys : List Wait) (x : Wait) where
   unfolding active
   one_active k = ap (active_of after_one k) (get-update w.objects x.port with_one k) ∙ by_key (x.port == k) (get w.objects k)
     where
-      by_object : (o : Option Object) → active_of after_one k (option_map with_one o) ≡ active_of w k o
+      by_object : (o : Option ObjectValue) → active_of after_one k (option_map with_one o) ≡ active_of w k o
       by_object None = refl
       by_object (Some o) =
           ap (bit_or o.raised) (implied_packed (λ ps. ps ++ packet_of w x ∷ []) after_one k o.body) ∙ active_of-same w after_one one_alike k (Some o)
 
-      by_key : (b : Bool) (o : Option Object) → active_of after_one k (if b then option_map with_one o else o) ≡ active_of w k o
+      by_key : (b : Bool) (o : Option ObjectValue) → active_of after_one k (if b then option_map with_one o else o) ≡ active_of w k o
       by_key true o = by_object o
       by_key false o = active_of-same w after_one one_alike k o
 
@@ -133,14 +133,14 @@ module _ (w : World) (xs ys : List Wait) (x : Wait) where
         ∙ (by_key k (x.port == k) (packets_split k) (get w.objects k)
         ∙ sym (get-each w.objects all k))))
       where
-        later : ℕ → Object → Object
+        later : ℕ → ObjectValue → ObjectValue
         later k o = record o { body = body_with_packets (packets_for after_one k) o.body }
 
-        all : ℕ → Object → Object
+        all : ℕ → ObjectValue → ObjectValue
         all k o = record o { body = body_with_packets (packets_for w k) o.body }
 
         by_key : (k : ℕ) (b : Bool) → packets_for w k ≡ (if b then packet_of w x ∷ [] else []) ++ packets_for after_one k
-            → (o : Option Object) → option_map (later k) (if b then option_map with_one o else o) ≡ option_map (all k) o
+            → (o : Option ObjectValue) → option_map (later k) (if b then option_map with_one o else o) ≡ option_map (all k) o
         by_key k true split None = refl
         by_key k true split (Some o) =
             λ i. Some (record o { body = sym (body_split (packets_for w k) (packets_for after_one k) (packet_of w x) split o.body) i })

@@ -1,25 +1,19 @@
 -- Registered waits fire one after another, in the order of the list.
-use Rattle.zl_calls.proofs.Common.{AreBeside, Bool, FiresWaits, IsConsistent, KeepSleepers, List, Map, None, Objects, Option, Packet, Port, Some, Wait, Watch}
-use Rattle.zl_calls.proofs.Common.{World, [], active, and_from, and_parts, ap, arith, at_port, at_port_of, cases_Bool, changed_port, changing_port, cond}
-use Rattle.zl_calls.proofs.Common.{eq-eqb, eqb-true, false, false≢true, find, fired, firing, first_out, get, has_child_job, has_child_process, holds, holds_at}
-use Rattle.zl_calls.proofs.Common.{holds_now, inl, inr, is_process, length, length-append, list_any, map, meets, none-some, object_entry, object_value}
-use Rattle.zl_calls.proofs.Common.{option_map, or_parts, packet_of, refl, repacked, same_Some, signals_at, subst, suc, sym, take, true, unlisting, unwatched}
-use Rattle.zl_calls.proofs.Common.{unwatching, update, waits_in, with_packet, without_first, without_place, world_blocked, world_value, zero, ℕ, ◌&&◌, ◌++◌}
-use Rattle.zl_calls.proofs.Common.{◌<◌, ◌==◌, ◌∙◌, ◌∷◌, ◌≡◌}
-use Rattle.zl_signals.specs.Waits.{wait_at, watch_holds}
-use Rattle.zl_objects.specs.declared.object.Body.{Body}
+use Rattle.zl_calls.proofs.Common.{AreBeside, Body, Bool, FiresWaits, IsConsistent, KeepSleepers, List, Map, None, Object, Objects, Option, Packet, Port}
+use Rattle.zl_calls.proofs.Common.{Process, Some, Wait, Watch, World, [], active, active_of-same, and_from, and_parts, ap, arith, at_port, at_port_of}
+use Rattle.zl_calls.proofs.Common.{cases_Bool, changed_port, changing_port, cond, eq-eqb, eqb-true, false, false≢true, find, fired, fired-same, firing}
+use Rattle.zl_calls.proofs.Common.{first_out, get, has_child_job, has_child_process, holds, holds_at, holds_now, inl, inr, is_process, length, length-append}
+use Rattle.zl_calls.proofs.Common.{list_any, map, meets, none-some, none_any, object_entry, object_value, option_map, or_parts, packet_of, refl, repacked}
+use Rattle.zl_calls.proofs.Common.{same_Some, signals_at, subst, suc, sym, take, true, unlisting, unwatched, unwatching, update, wait_at, waits_in, with_packet}
+use Rattle.zl_calls.proofs.Common.{without_first, without_place, world_blocked, world_value, zero, ℕ, ◌&&◌, ◌++◌, ◌<◌, ◌==◌, ◌∙◌, ◌∷◌, ◌≡◌}
+use Rattle.zl_signals.specs.Waits.{watch_holds}
 use Rattle.zl_objects.specs.declared.object.Body.TheVariants as body
-use Rattle.zl_objects.specs.declared.object.Object.{Object}
 use Rattle.zl_objects.specs.Waits.{packet_here}
-use Rattle.zl_calls.specs.declared.process.Process.{Process}
 use Rattle.zl_calls.proofs.objects.Active.{signals_active}
 use Rattle.zl_calls.proofs.objects.SameButWaits.{beside_consistent, beside_seen, unwatching_beside}
 use Rattle.zl_calls.proofs.waits.Firing.{after_one, fired_one, one_holds}
 use Rattle.zl_calls.proofs.objects.Packed.{packed_consistent, packed_seen}
 use Rattle.zl_calls.proofs.lists.Updates.{sorted_seen, update_seen, update_twice}
-use Rattle.zl_objects.proofs.Unlisted.{none_any}
-use Rattle.zl_rights.proofs.SameSignals.{active_of-same}
-use Rattle.zl_rights.proofs.Waking.{fired-same}
 
 -- those before the place in the list don't hold; all fire to the same world as from the objects that were first
 pub record IsFiring (ps : List Process) (first : Objects) (place : ℕ) (r : Objects) : Type 0 where

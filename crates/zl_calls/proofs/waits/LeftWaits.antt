@@ -1,14 +1,13 @@
 -- What a process does beside registered waits and blocked processes: those waits are left whose handle, object and port are.
-use Rattle.zl_calls.proofs.Common.{ActsAndSettles, All, AreBlocked, AtCall, Bool, CallName, Entry, IsActed, IsSoundWait, IsTrue, KeepSleepers, Library, List}
-use Rattle.zl_calls.proofs.Common.{ListsWithout, None, Objects, Option, Outcome, Ready, Settles, Site, Some, TraceItem, Wait, World, [], and_from, and_parts}
-use Rattle.zl_calls.proofs.Common.{ap, arith, cases_Bool, entry_at, false, false≢true, filter, filter_passes, get, has_handle, has_key, has_seen, inl, inr}
-use Rattle.zl_calls.proofs.Common.{is_blocked, is_left, is_made_by_handle, is_there, map, names_its_object, next_for, next_looks, none-some, not, object_entry}
-use Rattle.zl_calls.proofs.Common.{pid_of, process_entry, refl, settled_sound, settles_waiting, slice_index_or, state_passes, stays_but, subst, suc, sym}
-use Rattle.zl_calls.proofs.Common.{tells_blocking, true, waits_by, with_waiters, world_blocked, world_left, world_value, ℕ, ◌&&◌, ◌∙◌, ◌∷◌, ◌≡◌}
-use Rattle.zl_code.proofs.Common.{Calls, IsSound, Process as ProcessValue}
+use Rattle.zl_calls.proofs.Common.{ActsAndSettles, All, AreBlocked, AtCall, Bool, CallName, Calls, Entry, IsActed, IsSound, IsSoundWait, IsTrue, KeepSleepers}
+use Rattle.zl_calls.proofs.Common.{Library, List, ListsWithout, None, Objects, Option, Outcome, Process, ProcessValue, Ready, Settles, Site, Some, TraceItem}
+use Rattle.zl_calls.proofs.Common.{Wait, World, [], and_from, and_parts, ap, arith, cases_Bool, entry_at, false, false≢true, filter, filter_passes, get}
+use Rattle.zl_calls.proofs.Common.{has_handle, has_key, has_seen, inl, inr, is_blocked, is_left, is_left_at_port, is_made_by_handle, is_there, map}
+use Rattle.zl_calls.proofs.Common.{names_its_object, next_for, next_looks, none-some, not, object_entry, pid_of, process_entry, refl, settled_sound}
+use Rattle.zl_calls.proofs.Common.{settles_waiting, slice_index_or, state_passes, stays_but, subst, suc, sym, tells_blocking, true, waits_by, with_waiters}
+use Rattle.zl_calls.proofs.Common.{world_blocked, world_left, world_value, ℕ, ◌&&◌, ◌∙◌, ◌∷◌, ◌≡◌}
 use Rattle.zl_code.specs.declared.history.TraceItem.TheVariants as item
-use Rattle.zl_code.proofs.StepsWaiting.{step_waiting, is_left as is_left_at_port}
-use Rattle.zl_calls.specs.declared.process.Process.{Process}
+use Rattle.zl_code.proofs.StepsWaiting.{step_waiting}
 use Rattle.zl_calls.proofs.waking.BlockedLists.{same_blocked}
 use Rattle.zl_calls.proofs.processes.Departed.{left_all, settled_world}
 

@@ -1,10 +1,9 @@
 -- Tables and objects from which nothing goes: each registered wait that was left is left still.
-use Rattle.zl_calls.proofs.Common.{All, All-head, All-tail, Bool, Entry, IsSoundWait, IsTrue, List, Map, None, Objects, Option, Some, Wait, and_from, and_parts}
-use Rattle.zl_calls.proofs.Common.{ap, body_in, false, false≢true, filter, get, handles_in, has_handle, has_key, has_seen, if◌then◌else◌, is_left}
-use Rattle.zl_calls.proofs.Common.{is_made_by_handle, is_port_there, is_some, map, none-some, object_entry, process_entry, process_value, refl, same_Some}
-use Rattle.zl_calls.proofs.Common.{slice_get, slice_index_or, slice_set, suc, sym, true, world_blocked, world_value, zero, ℕ, ◌++◌, ◌==◌, ◌∙◌, ◌∷◌, ◌≡◌, []}
-use Rattle.zl_code.proofs.Common.{Object, Process as ProcessValue, IsSound}
-use Rattle.zl_calls.specs.declared.process.Process.{Process}
+use Rattle.zl_calls.proofs.Common.{All, All-head, All-tail, Bool, Entry, IsSound, IsSoundWait, IsTrue, List, Map, None, ObjectValue, Objects, Option, Process}
+use Rattle.zl_calls.proofs.Common.{ProcessValue, Some, Wait, [], and_from, and_parts, ap, body_in, false, false≢true, filter, get, handles_in, has_handle}
+use Rattle.zl_calls.proofs.Common.{has_key, has_seen, if◌then◌else◌, is_left, is_made_by_handle, is_port_there, is_some, map, none-some, object_entry}
+use Rattle.zl_calls.proofs.Common.{process_entry, process_value, refl, same_Some, slice_get, slice_index_or, slice_set, suc, sym, true, world_blocked}
+use Rattle.zl_calls.proofs.Common.{world_value, zero, ℕ, ◌++◌, ◌==◌, ◌∙◌, ◌∷◌, ◌≡◌}
 use Rattle.zl_calls.proofs.waits.LeftWaits.{watched_there}
 
 -- ---- maps
@@ -92,7 +91,7 @@ sound_left ps r blocked sound i d inside =
     by_process None v e at = absurd (none-some e at)
     by_process (Some q) v e at = rw at refl
 
-    port_there : (o : Option Object) → IsTrue (is_port_there (body_in o)) → IsTrue (is_some o)
+    port_there : (o : Option ObjectValue) → IsTrue (is_port_there (body_in o)) → IsTrue (is_some o)
     port_there None none = absurd (false≢true none)
     port_there (Some o) there = refl
 

@@ -1,17 +1,14 @@
 -- Waits end by the handles that a call took: object by object those that its caller made by a handle that is gone.
 use Rattle.zl_calls.proofs.Common.{All, All-head, All-tail, AreBeside, AreKnown, Bool, EndsUnheld, EndsWaits, IsConsistent, IsKnown, IsTrue, KeepSleepers, List}
-use Rattle.zl_calls.proofs.Common.{None, Objects, Some, Taken, Wait, Watch, World, [], and_from, and_parts, ap, arith, cases_Bool, cond, eq-eqb, eqb-true}
-use Rattle.zl_calls.proofs.Common.{false, false≢true, filter, find, first_out, get, get_or, has_handle, has_noted, if◌then◌else◌, inl, inr, is_empty, is_gone}
-use Rattle.zl_calls.proofs.Common.{is_left, is_made_at, is_made_by_handle, is_over_by, length, list_any, list_any-append, list_any_none, map, none-some, not}
-use Rattle.zl_calls.proofs.Common.{process_entry, refl, slice_index_or, subst, suc, sym, take, take_all, take_more, true, unlisting, unwatching, without_first}
-use Rattle.zl_calls.proofs.Common.{world_blocked, world_left, world_value, ℕ, ◌&&◌, ◌+◌, ◌<◌, ◌==◌, ◌||◌, ◌∙◌, ◌∷◌, ◌≡◌, ◌≤◌}
-use Rattle.zl_calls.specs.declared.process.Process.{Process}
+use Rattle.zl_calls.proofs.Common.{None, Objects, Process, Some, Taken, Wait, Watch, World, [], and-false, and_from, and_parts, ap, arith, cases_Bool, cond}
+use Rattle.zl_calls.proofs.Common.{eq-eqb, eqb-true, false, false≢true, filter, find, first_out, get, get_or, has_handle, has_noted, if◌then◌else◌, inl, inr}
+use Rattle.zl_calls.proofs.Common.{is_empty, is_gone, is_left, is_made_at, is_made_by_handle, is_over_by, length, list_any, list_any-append, list_any_none, map}
+use Rattle.zl_calls.proofs.Common.{none-some, none_any, not, process_entry, refl, slice_index_or, subst, suc, sym, take, take_all, take_more, true, unlisting}
+use Rattle.zl_calls.proofs.Common.{unwatching, without_first, world_blocked, world_left, world_value, ℕ, ◌&&◌, ◌+◌, ◌<◌, ◌==◌, ◌||◌, ◌∙◌, ◌∷◌, ◌≡◌, ◌≤◌}
 use Rattle.zl_calls.specs.declared.step.taken.TakenHandle.{TakenHandle}
-use Rattle.zl_objects.proofs.Unlisted.{none_any}
 use Rattle.zl_calls.proofs.waits.WaitsLost.{filter_within}
 use Rattle.zl_calls.proofs.objects.SameButWaits.{beside_consistent, beside_same, beside_then, beside_world, unwatching_beside}
 use Rattle.zl_objects.proofs.Unlisted.{rest_same}
-use Rattle.std.proofs.Math.Bool.{and-false}
 
 -- ---- lists
 

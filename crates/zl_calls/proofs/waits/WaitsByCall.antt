@@ -1,20 +1,16 @@
 -- What each call leaves of handles and objects, if it takes no handle, and of the list of registered waits: replace ends its own, and others end with
 -- objects and ports alone.
-use Rattle.zl_calls.proofs.Common.{Acted, ActsHere, Bool, CallName, ChanReadDoes, ChanWriteDoes, Does, Entry, Err, Handles, IsRefusedBy, KeepSleepers, List}
-use Rattle.zl_calls.proofs.Common.{ListsBut, ListsWithout, MakesOne, MakesPair, None, Objects, Ok, Option, Outcome, Pair, ReadFault, Received, ReplaceDoes}
-use Rattle.zl_calls.proofs.Common.{Request, Result, Site, Some, Status, Wait, action_asked, ap, calls_at, chan_create, chan_read_etc, chan_read_slots}
-use Rattle.zl_calls.proofs.Common.{chan_write, chan_write_slots, close, dup, event_create, eventpair_create, false, false≢true, filter, get, handle_info, inl}
-use Rattle.zl_calls.proofs.Common.{inr, is_empty, is_end, job_create, job_set_policy, keeps_handles, looks_at_waits, name_of, narrowed, next_looks, port_cancel}
-use Rattle.zl_calls.proofs.Common.{port_create, port_poll, port_queue, port_wait, process_exit, process_start, refl, replace, replace_refusal_of, signal}
-use Rattle.zl_calls.proofs.Common.{signal_peer, status_of, subst, sym, task_kill, then_some, true, true≢false, update, wait_async, wait_one, wait_poll}
-use Rattle.zl_calls.proofs.Common.{waits_after, waits_by, wants_nothing, with_new, with_rights, ℕ, ⊤, ◌&&◌, ◌==◌, ◌∙◌, ◌≡◌}
+use Rattle.zl_calls.proofs.Common.{Acted, ActsHere, Body, Bool, CallName, ChanReadDoes, ChanWriteDoes, Does, Entry, Err, Handles, IsRefusedBy, KeepSleepers}
+use Rattle.zl_calls.proofs.Common.{List, ListsBut, ListsWithout, MakesOne, MakesPair, None, Object, Objects, Ok, Option, Outcome, Pair, Process, ReadFault}
+use Rattle.zl_calls.proofs.Common.{Received, ReplaceDoes, Request, Result, Site, Some, Status, Wait, action_asked, ap, calls_at, chan_create, chan_read_etc}
+use Rattle.zl_calls.proofs.Common.{chan_read_slots, chan_write, chan_write_slots, close, dup, event_create, eventpair_create, false, false≢true, filter, get}
+use Rattle.zl_calls.proofs.Common.{handle_info, inl, inr, is_empty, is_end, job_create, job_set_policy, keeps_handles, looks_at_waits, name_of, narrowed}
+use Rattle.zl_calls.proofs.Common.{next_looks, port_cancel, port_create, port_poll, port_queue, port_wait, process_exit, process_start, refl, replace}
+use Rattle.zl_calls.proofs.Common.{replace_refusal_of, signal, signal_peer, status_of, subst, sym, task_kill, then_some, true, true≢false, update, wait_async}
+use Rattle.zl_calls.proofs.Common.{wait_one, wait_poll, waits_after, waits_by, wants_nothing, with_new, with_pair, with_rights, ℕ, ⊤, ◌&&◌, ◌==◌, ◌∙◌, ◌≡◌}
 use Rattle.zl_code.specs.declared.history.Outcome.TheVariants as outcome
 use Rattle.zl_code.specs.declared.history.TraceItem.TheVariants as item
 use Rattle.zl_rights.specs.declared.status.Status.TheVariants as status
-use Rattle.zl_objects.specs.Objects.{with_pair}
-use Rattle.zl_objects.specs.declared.object.Body.{Body}
-use Rattle.zl_objects.specs.declared.object.Object.{Object}
-use Rattle.zl_calls.specs.declared.process.Process.{Process}
 use Rattle.zl_calls.proofs.calls.Refused.{nothing_wanted}
 use Rattle.zl_calls.proofs.waits.WaitsLost.{lists_wide}
 use Rattle.zl_calls.proofs.calls.Answered.{asking}

@@ -1,11 +1,9 @@
 -- The list of registered waits, as handles and objects go: it loses those alone whose object or port is gone, or whose process ends.
-use Rattle.zl_calls.proofs.Common.{All-contains, All-contains_itself, All-filter, Bool, Contains, EndsWaits, IsTrue, KeepsWithout, LeavesListed, List}
-use Rattle.zl_calls.proofs.Common.{ListsWithout, None, Objects, Option, Releases, Some, Wait, [], and_from, and_parts, ap, cascaded_was, cases_Bool}
-use Rattle.zl_calls.proofs.Common.{false, false≢true, filter, filter_passes, get, has_key, has_key-update, if◌then◌else◌, inl, inr, is_made_at}
-use Rattle.zl_calls.proofs.Common.{is_there, job_in, not, refl, stays_but, stopped, stopping, subst, sym, true, ℕ, ◌&&◌, ◌==◌, ◌∙◌, ◌∷◌, ◌≡◌}
+use Rattle.zl_calls.proofs.Common.{All-contains, All-contains_itself, All-filter, Bool, Contains, EndedHere, EndsWaits, IsTrue, KeepsWithout, LeavesListed}
+use Rattle.zl_calls.proofs.Common.{List, ListsWithout, None, ObjectEnds, Objects, Option, Releases, Some, Wait, [], and_from, and_parts, ap, cascaded_was}
+use Rattle.zl_calls.proofs.Common.{cases_Bool, false, false≢true, filter, filter_passes, get, has_key, has_key-update, if◌then◌else◌, inl, inr, is_made_at}
+use Rattle.zl_calls.proofs.Common.{is_there, job_in, not, refl, stays_but, stopped, stopping, subst, sym, true, was_there, ℕ, ◌&&◌, ◌==◌, ◌∙◌, ◌∷◌, ◌≡◌}
 use Rattle.zl_objects.proofs.Bare.{has_same}
-use Rattle.zl_objects.proofs.Released.{was_there}
-use Rattle.zl_objects.specs.Release.{Ends as ObjectEnds, EndedHere}
 
 -- what passes the one test passes the other, which then takes nothing away that counts
 pub filter_within : {X : Type 0} (p q : X → Bool) (xs : List X) → ((x : X) → IsTrue (p x) → IsTrue (q x)) → filter p (filter q xs) ≡ filter p xs

@@ -1,13 +1,11 @@
 -- The list of the blocked processes, as one process changes.
-use Rattle.zl_calls.proofs.Common.{AreBlocked, Bool, IsTrue, List, Map, Some, StayBlocked, TraceItem, [], ap, arith, blocked_by, cases_Bool, eq-eqb, eqb-true}
-use Rattle.zl_calls.proofs.Common.{false, false≢true, filter, get, if◌then◌else◌, inl, inr, is_blocked, length, length-map, map, not, pid_of, process_entry}
-use Rattle.zl_calls.proofs.Common.{process_value, refl, state_passes, state_value, subst, sym, tells_blocking, then_blocked, times, times-behind, times-last}
-use Rattle.zl_calls.proofs.Common.{times-other, times-same, true, ℕ, ◌++◌, ◌+◌, ◌<◌, ◌==◌, ◌^◌, ◌∙◌, ◌∷◌, ◌≡◌, ◌≤◌}
+use Rattle.zl_calls.proofs.Common.{AreBlocked, Bool, IsTrue, List, Map, Process, ProcessValue, Some, StayBlocked, TraceItem, [], ap, arith, blocked_by}
+use Rattle.zl_calls.proofs.Common.{cases_Bool, eq-eqb, eqb-true, false, false≢true, filter, get, if◌then◌else◌, inl, inr, is_blocked, length, length-map, map}
+use Rattle.zl_calls.proofs.Common.{not, pid_of, process_entry, process_value, refl, state_passes, state_value, subst, sym, tells_blocking, then_blocked, times}
+use Rattle.zl_calls.proofs.Common.{times-behind, times-last, times-other, times-same, true, ℕ, ◌++◌, ◌+◌, ◌<◌, ◌==◌, ◌^◌, ◌∙◌, ◌∷◌, ◌≡◌, ◌≤◌}
 use Rattle.std.proofs.lemmas.List.Filters.{length-filter_both}
-use Rattle.zl_code.proofs.Common.{Process as ProcessValue}
 use Rattle.zl_code.specs.declared.history.Outcome.TheVariants as outcome
 use Rattle.zl_code.specs.declared.history.TraceItem.TheVariants as item
-use Rattle.zl_calls.specs.declared.process.Process.{Process}
 use Rattle.zl_calls.proofs.calls.Answered.{IsWrite}
 use Rattle.zl_calls.proofs.processes.Written.{found_after, get_after}
 

@@ -1,9 +1,9 @@
 -- The turn of a process may come before those of others that take no packets from its port.
-use Rattle.zl_calls.proofs.Common.{Blocked, Body, Bool, IsLater, IsTrue, List, Map, None, Object, Option, Packet, PacketAt, PortBody, Process, Ready, SignalOf}
-use Rattle.zl_calls.proofs.Common.{Some, State, T, World, [], active, answered, ap, arith, cases_Bool, eq-eqb, eqb-true, false, false≢true, filter, fold, get}
-use Rattle.zl_calls.proofs.Common.{get-put, has_no_packet, if◌then◌else◌, inl, inr, is_blocked, is_sorted, made_ready, meets, nat_cmp, nat_tests, not}
-use Rattle.zl_calls.proofs.Common.{offers_nothing, packet_values, put, refl, same_Some, same_map, slice_get, state_passes, subst, sym, takes_from, times, true}
-use Rattle.zl_calls.proofs.Common.{with_body, woken, woken-later, ℕ, ◌+◌, ◌==◌, ◌∙◌, ◌∷◌, ◌≡◌, ◌⊎◌}
+use Rattle.zl_calls.proofs.Common.{Blocked, BodyValue, Bool, IsLater, IsTrue, List, Map, None, ObjectValue, Option, Packet, PacketAt, PortBody, ProcessValue}
+use Rattle.zl_calls.proofs.Common.{Ready, SignalOf, Some, StateValue, T, World, [], active, answered, ap, arith, cases_Bool, eq-eqb, eqb-true, false}
+use Rattle.zl_calls.proofs.Common.{false≢true, filter, fold, get, get-put, has_no_packet, if◌then◌else◌, inl, inr, is_blocked, is_sorted, made_ready, meets}
+use Rattle.zl_calls.proofs.Common.{nat_cmp, nat_tests, not, offers_nothing, packet_values, put, refl, same_Some, same_map, slice_get, state_passes, subst, sym}
+use Rattle.zl_calls.proofs.Common.{takes_from, times, true, with_body, woken, woken-later, ℕ, ◌+◌, ◌==◌, ◌∙◌, ◌∷◌, ◌≡◌, ◌⊎◌}
 use Rattle.std.specs.Cmp.{nat_cmp_total}
 use Rattle.std.specs.FinMap.Entries.{is_sorted-put}
 use Rattle.zl_rights.proofs.Canonical.{put-std}
@@ -44,35 +44,35 @@ filter_comm p q (x ∷ xs) = by_tests (p x) (q x) refl refl (filter_comm p q xs)
 -- in w the turn of p does nothing
 data Idle (w : World) (p : ℕ) : Type 0 where
   nobody : get w.processes p ≡ None → Idle w p
-  unblocked : (a : Process) → get w.processes p ≡ Some a → is_blocked a.state ≡ false → Idle w p
-  no_signal : (a : Process) (k mask : ℕ) (ds : List ℕ) → get w.processes p ≡ Some a → a.state ≡ Blocked (SignalOf k mask) ds
+  unblocked : (a : ProcessValue) → get w.processes p ≡ Some a → is_blocked a.state ≡ false → Idle w p
+  no_signal : (a : ProcessValue) (k mask : ℕ) (ds : List ℕ) → get w.processes p ≡ Some a → a.state ≡ Blocked (SignalOf k mask) ds
       → meets (active w k) mask ≡ false → Idle w p
-  no_packet : (a : Process) (k : ℕ) (ds : List ℕ) → get w.processes p ≡ Some a → a.state ≡ Blocked (PacketAt k) ds
+  no_packet : (a : ProcessValue) (k : ℕ) (ds : List ℕ) → get w.processes p ≡ Some a → a.state ≡ Blocked (PacketAt k) ds
       → IsTrue (offers_nothing (get w.objects k)) → Idle w p
 
 -- in w the turn of p does this
 data Turn (w : World) (p : ℕ) : Type 0 where
   idle : Idle w p → Turn w p
-  by_signal : (a : Process) (k mask : ℕ) (ds : List ℕ) → get w.processes p ≡ Some a → a.state ≡ Blocked (SignalOf k mask) ds
+  by_signal : (a : ProcessValue) (k mask : ℕ) (ds : List ℕ) → get w.processes p ≡ Some a → a.state ≡ Blocked (SignalOf k mask) ds
       → meets (active w k) mask ≡ true → Turn w p
-  by_packet : (a : Process) (k : ℕ) (ds : List ℕ) (o : Object) (x : Packet) (rest : List Packet) → get w.processes p ≡ Some a
+  by_packet : (a : ProcessValue) (k : ℕ) (ds : List ℕ) (o : ObjectValue) (x : Packet) (rest : List Packet) → get w.processes p ≡ Some a
       → a.state ≡ Blocked (PacketAt k) ds → get w.objects k ≡ Some o → o.body ≡ PortBody (x ∷ rest) → Turn w p
 
 module _ (w : World) (p : ℕ) where
   turn_of : Turn w p
   turn_of = with_process (get w.processes p) refl
     where
-      with_object : (a : Process) (k : ℕ) (ds : List ℕ) → get w.processes p ≡ Some a → a.state ≡ Blocked (PacketAt k) ds → (o : Option Object)
+      with_object : (a : ProcessValue) (k : ℕ) (ds : List ℕ) → get w.processes p ≡ Some a → a.state ≡ Blocked (PacketAt k) ds → (o : Option ObjectValue)
           → get w.objects k ≡ o → Turn w p
       with_object a k ds at is None none = idle (no_packet a k ds at is (rw none refl))
       with_object a k ds at is (Some o) there = by_body o.body refl
         where
-          by_body : (b : Body) → o.body ≡ b → Turn w p
+          by_body : (b : BodyValue) → o.body ≡ b → Turn w p
           by_body (PortBody (x ∷ rest)) port = by_packet a k ds o x rest at is there port
           by_body (PortBody []) port = idle (no_packet a k ds at is (rw (there, port) refl))
           by_body _ other = idle (no_packet a k ds at is (rw (there, other) refl))
 
-      with_state : (a : Process) → get w.processes p ≡ Some a → (s : State) → a.state ≡ s → Turn w p
+      with_state : (a : ProcessValue) → get w.processes p ≡ Some a → (s : StateValue) → a.state ≡ s → Turn w p
       with_state a at (Blocked (SignalOf k mask) ds) is = elim (cases_Bool (meets (active w k) mask)) [
         | inl holds ↦ by_signal a k mask ds at is holds
         | inr fails ↦ idle (no_signal a k mask ds at is fails)
@@ -80,7 +80,7 @@ module _ (w : World) (p : ℕ) where
       with_state a at (Blocked (PacketAt k) ds) is = with_object a k ds at is (get w.objects k) refl
       with_state a at _ is = idle (unblocked a at (ap is_blocked is))
 
-      with_process : (o : Option Process) → get w.processes p ≡ o → Turn w p
+      with_process : (o : Option ProcessValue) → get w.processes p ≡ o → Turn w p
       with_process None none = idle (nobody none)
       with_process (Some a) at = with_state a at a.state refl
 
@@ -89,17 +89,17 @@ module _ (w : World) (p : ℕ) where
   idle_turn (nobody none) = rw none refl
   idle_turn (unblocked a at is) = by_state a.state refl is
     where
-      by_state : (s : State) → a.state ≡ s → is_blocked s ≡ false → woken w p ≡ w
+      by_state : (s : StateValue) → a.state ≡ s → is_blocked s ≡ false → woken w p ≡ w
       by_state (Blocked awaited ds) state h = absurd (false≢true (sym h))
       by_state _ state h = rw (at, state) refl
   idle_turn (no_signal a k mask ds at is fails) = rw (at, is, fails) refl
   idle_turn (no_packet a k ds at is none) = with_object (get w.objects k) refl none
     where
-      with_object : (o : Option Object) → get w.objects k ≡ o → IsTrue (offers_nothing o) → woken w p ≡ w
+      with_object : (o : Option ObjectValue) → get w.objects k ≡ o → IsTrue (offers_nothing o) → woken w p ≡ w
       with_object None there h = rw (at, is, there) refl
       with_object (Some o) there h = by_body o.body refl h
         where
-          by_body : (b : Body) → o.body ≡ b → IsTrue (has_no_packet b) → woken w p ≡ w
+          by_body : (b : BodyValue) → o.body ≡ b → IsTrue (has_no_packet b) → woken w p ≡ w
           by_body (PortBody (x ∷ rest)) port h = absurd (false≢true h)
           by_body (PortBody []) port h = rw (at, is, there, port) refl
           by_body _ other h = rw (at, is, there, other) refl
@@ -110,12 +110,12 @@ module _ (w : World) (p : ℕ) where
   idle_later v later same (no_signal a k mask ds at is fails) = no_signal a k mask ds (same ∙ at) is (ap (λ (n : ℕ). meets n mask) (later.signals k) ∙ fails)
   idle_later v later same (no_packet a k ds at is none) = no_packet a k ds (same ∙ at) is (ap offers_nothing (later.objects k none) ∙ none)
 
-  signal_turn : (a : Process) (k mask : ℕ) (ds : List ℕ) → get w.processes p ≡ Some a → a.state ≡ Blocked (SignalOf k mask) ds
+  signal_turn : (a : ProcessValue) (k mask : ℕ) (ds : List ℕ) → get w.processes p ≡ Some a → a.state ≡ Blocked (SignalOf k mask) ds
       → meets (active w k) mask ≡ true → woken w p ≡ made_ready w p a ds (0 ∷ active w k ∷ [])
   unfolding woken
   signal_turn a k mask ds at is holds = rw (at, is, holds) refl
 
-  packet_turn : (a : Process) (k : ℕ) (ds : List ℕ) (o : Object) (x : Packet) (rest : List Packet) → get w.processes p ≡ Some a
+  packet_turn : (a : ProcessValue) (k : ℕ) (ds : List ℕ) (o : ObjectValue) (x : Packet) (rest : List Packet) → get w.processes p ≡ Some a
       → a.state ≡ Blocked (PacketAt k) ds → get w.objects k ≡ Some o → o.body ≡ PortBody (x ∷ rest)
       → woken w p ≡ made_ready (with_body w k o (PortBody rest)) p a ds (0 ∷ packet_values x)
   unfolding woken
@@ -133,7 +133,7 @@ pub record AreSorted (w : World) : Type 0 where
   pub objects : T (is_sorted nat_cmp w.objects)
 
 module _ (w : World) (p : ℕ) where
-  ready_sorted : (v : World) (a : Process) (ds vs : List ℕ) → AreSorted v → AreSorted (made_ready v p a ds vs)
+  ready_sorted : (v : World) (a : ProcessValue) (ds vs : List ℕ) → AreSorted v → AreSorted (made_ready v p a ds vs)
   unfolding made_ready
   ready_sorted v a ds vs sorted = record { processes = put_sorted v.processes p _ sorted.processes; objects = sorted.objects }
 
@@ -147,7 +147,7 @@ module _ (w : World) (p : ℕ) where
           subst AreSorted (sym (packet_turn w p a k ds o x rest at is there port)) (ready_sorted (with_body w k o (PortBody rest)) a ds _
           (record { processes = sorted.processes; objects = put_sorted w.objects k _ sorted.objects }))
 
-  ready_at : (v : World) (a : Process) (ds vs : List ℕ) (q : ℕ) → get (made_ready v p a ds vs).processes q
+  ready_at : (v : World) (a : ProcessValue) (ds vs : List ℕ) (q : ℕ) → get (made_ready v p a ds vs).processes q
       ≡ (if p == q then Some (record a { state = Ready; cpu = answered a.cpu ds vs }) else get v.processes q)
   unfolding made_ready
   ready_at v a ds vs q = get-put v.processes p _ q
@@ -177,7 +177,7 @@ module _ (w : World) (p : ℕ) where
           ap (λ (v : World). takes_in v port p) (packet_turn w p a k ds o x rest at is there is_port)
           ∙ (ap (state_passes (takes_from port)) (ready_at (with_body w k o (PortBody rest)) a ds _ p) ∙ rw (eq-eqb p p refl) refl)
 
-  ready_objects : (v : World) (a : Process) (ds vs : List ℕ) → (made_ready v p a ds vs).objects ≡ v.objects
+  ready_objects : (v : World) (a : ProcessValue) (ds vs : List ℕ) → (made_ready v p a ds vs).objects ≡ v.objects
   unfolding made_ready
   ready_objects v a ds vs = refl
 
@@ -188,20 +188,20 @@ module _ (w : World) (p : ℕ) where
       by_turn : Turn w p → get (woken w p).objects k ≡ get w.objects k
       by_turn (idle i) = ap (λ (v : World). get v.objects k) (idle_turn w p i)
       by_turn (by_signal a j mask ds at is holds) =
-          ap (λ (v : World). get v.objects k) (signal_turn w p a j mask ds at is holds) ∙ ap (λ (m : Map Object). get m k) (ready_objects w a ds _)
+          ap (λ (v : World). get v.objects k) (signal_turn w p a j mask ds at is holds) ∙ ap (λ (m : Map ObjectValue). get m k) (ready_objects w a ds _)
       by_turn (by_packet a j ds o x rest at is there port) =
           let differs : (j == k) ≡ false = rw (at, is) at apart in
           ap (λ (v : World). get v.objects k) (packet_turn w p a j ds o x rest at is there port)
-          ∙ (ap (λ (m : Map Object). get m k) (ready_objects (with_body w j o (PortBody rest)) a ds _)
+          ∙ (ap (λ (m : Map ObjectValue). get m k) (ready_objects (with_body w j o (PortBody rest)) a ds _)
           ∙ (get-put w.objects j _ k ∙ rw differs refl))
 
 -- ---- two turns
 
 -- p is ready, and of the objects these are left
-abbrev readied : World → Map Object → ℕ → Process → List ℕ → List ℕ → World
+abbrev readied : World → Map ObjectValue → ℕ → ProcessValue → List ℕ → List ℕ → World
 readied w objects p a ds vs = made_ready (record w { objects = objects }) p a ds vs
 
-module _ (w : World) (m : Map Object) (p q : ℕ) (a b : Process) (ds es vs us : List ℕ) (sorted : T (is_sorted nat_cmp w.processes))
+module _ (w : World) (m : Map ObjectValue) (p q : ℕ) (a b : ProcessValue) (ds es vs us : List ℕ) (sorted : T (is_sorted nat_cmp w.processes))
     (apart : (p == q) ≡ false) where
   ready_comm : readied (readied w m p a ds vs) m q b es us ≡ readied (readied w m q b es us) m p a ds vs
   unfolding made_ready
@@ -213,14 +213,14 @@ module _ (w : World) (m : Map Object) (p q : ℕ) (a b : Process) (ds es vs us :
   }
 
 module _ (w : World) (p q : ℕ) (apart : (p == q) ≡ false) where
-  signal_second : (b : Process) (k mask : ℕ) (es : List ℕ) → get w.processes q ≡ Some b → b.state ≡ Blocked (SignalOf k mask) es
+  signal_second : (b : ProcessValue) (k mask : ℕ) (es : List ℕ) → get w.processes q ≡ Some b → b.state ≡ Blocked (SignalOf k mask) es
       → meets (active w k) mask ≡ true → woken (woken w p) q ≡ made_ready (woken w p) q b es (0 ∷ active w k ∷ [])
   signal_second b k mask es at is holds =
       let same = (woken-later w p).signals k in
       signal_turn (woken w p) q b k mask es (other_turn w p q apart ∙ at) is (ap (λ (n : ℕ). meets n mask) same ∙ holds)
       ∙ ap (λ (n : ℕ). made_ready (woken w p) q b es (0 ∷ n ∷ [])) same
 
-  packet_second : (b : Process) (k : ℕ) (es : List ℕ) (o : Object) (x : Packet) (rest : List Packet) → get w.processes q ≡ Some b
+  packet_second : (b : ProcessValue) (k : ℕ) (es : List ℕ) (o : ObjectValue) (x : Packet) (rest : List Packet) → get w.processes q ≡ Some b
       → b.state ≡ Blocked (PacketAt k) es → get w.objects k ≡ Some o → o.body ≡ PortBody (x ∷ rest) → takes_in w k p ≡ false
       → woken (woken w p) q ≡ made_ready (with_body (woken w p) k o (PortBody rest)) q b es (0 ∷ packet_values x)
   packet_second b k es o x rest at is there port none =

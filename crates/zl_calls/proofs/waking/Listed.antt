@@ -1,20 +1,16 @@
 -- Those that may wake are taken off the list one after another, and all blocked processes have had their turns then.
 use Rattle.zl_calls.proofs.Common.{All, All-contains, AreBlocked, AreOrdered, AreSought, Blocked, Bool, Contains, Created, Ended, Gone, HaveCounters, HaveLeft}
-use Rattle.zl_calls.proofs.Common.{IsConsistent, IsTrue, KeepSleepers, List, None, Objects, Option, Packet, PacketAt, Ready, Seeks, SignalOf, Sleeper, Some}
-use Rattle.zl_calls.proofs.Common.{StandInOrder, State, TakesDue, Wakes, WakesOne, WakesSleeper, Woke, World, [], and_one, and_parts, ap, arith, awaited_of}
-use Rattle.zl_calls.proofs.Common.{bare, cases_Bool, each, eq-eqb, eqb-true, false, false≢true, filter, fold, get, get_or, given_awake, if◌then◌else◌, inl, inr}
-use Rattle.zl_calls.proofs.Common.{is_blocked, is_due, is_empty, is_for, is_same, is_some, listed_for, map, meets, none-some, not, object_value, option_map}
-use Rattle.zl_calls.proofs.Common.{packet_values, packets_found, passes, position, process_entry, refl, same_Some, signals_at, slice_get, state_passes}
-use Rattle.zl_calls.proofs.Common.{state_value, subst, sym, takes_at, takes_from, then_some, times, times-same, true, woken, world_blocked, ℕ, ◌&&◌, ◌<◌, ◌==◌}
-use Rattle.zl_calls.proofs.Common.{◌^◌, ◌∙◌, ◌∷◌, ◌≡◌}
+use Rattle.zl_calls.proofs.Common.{IsConsistent, IsTrue, KeepSleepers, List, None, Objects, Option, Packet, PacketAt, Process, ProcessValue, Ready, Seeks}
+use Rattle.zl_calls.proofs.Common.{SignalOf, Sleeper, Some, StandInOrder, StateValue, TakesDue, Wakes, WakesOne, WakesSleeper, Woke, World, [], and-false}
+use Rattle.zl_calls.proofs.Common.{and_one, and_parts, ap, arith, awaited_found, awaited_in, awaited_of, bare, cases_Bool, each, eq-eqb, eqb-true, false}
+use Rattle.zl_calls.proofs.Common.{false≢true, filter, fold, get, get_or, given_awake, held, if◌then◌else◌, inl, inr, is_blocked, is_due, is_empty, is_for}
+use Rattle.zl_calls.proofs.Common.{is_same, is_some, listed_for, map, meets, none-some, not, object_value, option_map, other_way, packet_values, packets_found}
+use Rattle.zl_calls.proofs.Common.{passes, position, process_entry, refl, same_Some, signals_at, slice_get, state_passes, state_value, subst, sym, takes_at}
+use Rattle.zl_calls.proofs.Common.{takes_from, then_some, times, times-same, true, woken, world_blocked, ℕ, ◌&&◌, ◌<◌, ◌==◌, ◌^◌, ◌∙◌, ◌∷◌, ◌≡◌}
 use Rattle.zl_rights.specs.World.{Awaited as AwaitedValue}
-use Rattle.zl_code.proofs.Common.{Process as ProcessValue}
 use Rattle.zl_objects.specs.declared.awaited.Awaited.{Awaited}
 use Rattle.zl_objects.specs.declared.awaited.Awaited.TheVariants as awaits
 use Rattle.zl_objects.proofs.Sleeping.{at_port}
-use Rattle.zl_calls.specs.Blocking.{awaited_found, awaited_in}
-use Rattle.zl_calls.specs.declared.process.Process.{Process}
-use Rattle.zl_calls.specs.World.{held}
 use Rattle.zl_calls.specs.declared.waking.Woke.TheVariants as woke
 use Rattle.zl_calls.proofs.lists.Updates.{sorted_seen}
 use Rattle.zl_calls.proofs.step.Performing.{stands_there}
@@ -22,14 +18,13 @@ use Rattle.zl_calls.proofs.objects.SameButWaits.{beside_consistent}
 use Rattle.zl_calls.proofs.waking.Exchange.{AreSorted, other_turn, turn_first}
 use Rattle.zl_calls.proofs.waking.Ordered.{agree, both_filters, takes_awaited, takes_none}
 use Rattle.zl_calls.proofs.waking.Quiet.{quiet_wakes}
-use Rattle.zl_verify.proofs.OwnTable.{other_way}
 use Rattle.zl_calls.proofs.waking.WakeLoop.{one_left}
-use Rattle.std.proofs.Math.Bool.{and-false, and-true}
+use Rattle.std.proofs.Math.Bool.{and-true}
 
 -- ---- what is waited for
 
 -- what a process waits for is there just where it wakes
-pub due_woke : (s : State) (r : Objects) (a : Awaited) → awaited_in s ≡ Some a → is_some (given_awake s r) ≡ is_due r.objects a
+pub due_woke : (s : StateValue) (r : Objects) (a : Awaited) → awaited_in s ≡ Some a → is_some (given_awake s r) ≡ is_due r.objects a
 due_woke (Blocked (SignalOf k mask) ds) r a is = by_test (meets (signals_at r.objects k) mask) refl
     ∙ ap (is_due r.objects) (same_Some (awaits.SignalOf k mask) a is)
   where
@@ -68,7 +63,7 @@ blocked_so : (o : Option ProcessValue) (a : Awaited) → awaited_found o ≡ Som
 blocked_so None a h = absurd (none-some a h)
 blocked_so (Some p) a h = by_state p.state h
   where
-    by_state : (t : State) → awaited_in t ≡ Some a → is_blocked t ≡ true
+    by_state : (t : StateValue) → awaited_in t ≡ Some a → is_blocked t ≡ true
     by_state (Blocked b ds) h = refl
     by_state Created h = absurd (none-some a h)
     by_state Ready h = absurd (none-some a h)
@@ -178,7 +173,7 @@ module _ (ps0 : List Process) (r0 : Objects) (first : List ℕ) where
           at_its_port port None h = absurd (false≢true h)
           at_its_port port (Some p) h = by_state p.state h
             where
-              by_state : (t : State) → takes_from port t ≡ true → awaited_in t ≡ Some (awaits.PacketAt port)
+              by_state : (t : StateValue) → takes_from port t ≡ true → awaited_in t ≡ Some (awaits.PacketAt port)
               by_state (Blocked (PacketAt k) ds) h = ap (λ (j : ℕ). Some (awaits.PacketAt j)) (eqb-true k port h)
               by_state _ h = absurd (false≢true h)
 

@@ -1,14 +1,12 @@
 -- Of the processes listed for packets of a port those that are blocked there stand in the order in which they blocked.
 use Rattle.zl_calls.proofs.Common.{AreBlocked, AreLeft, AreOrdered, Blocked, Bool, Created, Ended, Gone, IsTrue, KeepSleepers, List, None, Objects, Option}
-use Rattle.zl_calls.proofs.Common.{PacketAt, Ready, SignalOf, Some, State, [], and_parts, ap, arith, awaited_of, cases_Bool, eqb-true, false, false≢true}
-use Rattle.zl_calls.proofs.Common.{filter, filter-append, get, if◌then◌else◌, inl, inr, is_blocked, is_for, length, list_any, listed_for, map, none-some, not}
-use Rattle.zl_calls.proofs.Common.{process_entry, refl, same_Some, state_passes, state_value, subst, sym, takes_at, takes_from, times, true, ℕ, ◌&&◌, ◌++◌, ◌+◌}
-use Rattle.zl_calls.proofs.Common.{◌==◌, ◌||◌, ◌∙◌, ◌∷◌, ◌≡◌, ◌≤◌}
+use Rattle.zl_calls.proofs.Common.{PacketAt, Process, ProcessValue, Ready, SignalOf, Some, StateValue, [], and_parts, ap, arith, awaited_found, awaited_in}
+use Rattle.zl_calls.proofs.Common.{awaited_of, cases_Bool, eqb-true, false, false≢true, filter, filter-append, get, if◌then◌else◌, inl, inr, is_blocked, is_for}
+use Rattle.zl_calls.proofs.Common.{length, list_any, listed_for, map, none-some, not, process_entry, refl, same_Some, state_passes, state_value, subst, sym}
+use Rattle.zl_calls.proofs.Common.{takes_at, takes_from, times, true, ℕ, ◌&&◌, ◌++◌, ◌+◌, ◌==◌, ◌||◌, ◌∙◌, ◌∷◌, ◌≡◌, ◌≤◌}
 use Rattle.std.proofs.Math.Dec.{ltb}
-use Rattle.zl_code.proofs.Common.{Process as ProcessValue, ltb-false, ltb-true}
+use Rattle.zl_code.proofs.Common.{ltb-false, ltb-true}
 use Rattle.zl_objects.specs.declared.awaited.Awaited.{Awaited}
-use Rattle.zl_calls.specs.Blocking.{awaited_found, awaited_in}
-use Rattle.zl_calls.specs.declared.process.Process.{Process}
 use Rattle.zl_calls.proofs.calls.Answered.{IsWrite}
 use Rattle.zl_calls.proofs.processes.Written.{get_after}
 use Rattle.zl_calls.proofs.waking.WakeLoop.{times_cons}
@@ -87,7 +85,7 @@ none_pass test none (x ∷ xs) = rw (none x) (none_pass test none xs)
 
 -- ---- who is blocked where
 
-takes_blocked : (port : ℕ) (s : State) → takes_from port s ≡ true → is_blocked s ≡ true
+takes_blocked : (port : ℕ) (s : StateValue) → takes_from port s ≡ true → is_blocked s ≡ true
 takes_blocked port (Blocked (PacketAt k) ds) h = refl
 takes_blocked port _ h = absurd (false≢true h)
 
@@ -109,7 +107,7 @@ pub takes_awaited : (port : ℕ) (o : Option ProcessValue) (a : Awaited) → awa
 takes_awaited port None a is = absurd (none-some a is)
 takes_awaited port (Some p) a is = by_state p.state is
   where
-    by_state : (s : State) → awaited_in s ≡ Some a → takes_from port s ≡ is_for port a
+    by_state : (s : StateValue) → awaited_in s ≡ Some a → takes_from port s ≡ is_for port a
     by_state (Blocked (PacketAt k) ds) is = ap (is_for port) (same_Some (awaited_of (PacketAt k)) a is)
     by_state (Blocked (SignalOf k mask) ds) is = ap (is_for port) (same_Some (awaited_of (SignalOf k mask)) a is)
     by_state Created is = absurd (none-some a is)
@@ -139,7 +137,7 @@ written_ordered {before} {after} {p} {p2} write r blocked was still (inr stand) 
     agree (takes_at after port) (takes_at before port) (same port) (listed_for r.sleepers port)
     ∙ (stand port ∙ sym (agree (takes_at after port) (takes_at before port) (same port) blocked)))
   where
-    none : (port : ℕ) (s : State) → is_blocked s ≡ false → takes_from port s ≡ false
+    none : (port : ℕ) (s : StateValue) → is_blocked s ≡ false → takes_from port s ≡ false
     none port s out = elim (cases_Bool (takes_from port s)) as (λ _. takes_from port s ≡ false) [
       | inl takes ↦ absurd (false≢true (sym out ∙ takes_blocked port s takes))
       | inr no_port ↦ no_port

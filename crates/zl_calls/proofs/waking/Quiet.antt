@@ -1,16 +1,12 @@
 -- Where the objects are quiet, no wait fires and no process wakes.
-use Rattle.zl_calls.proofs.Common.{Blocked, Bool, FiresWaits, IsConsistent, List, None, Objects, Option, Packet, PacketAt, SignalOf, Some, State, Wait, World}
-use Rattle.zl_calls.proofs.Common.{[], active, ap, awaited_of, false, false≢true, fold, get, get_seen, has_child_job, has_child_process, holds, holds_now}
-use Rattle.zl_calls.proofs.Common.{is_due, is_empty, is_process, list_any, made_ready, map, meets, none_holds, not, object_value, packets_found, packets_of}
-use Rattle.zl_calls.proofs.Common.{process_entry, refl, signals_at, subst, sym, wakes, woken, woken_at_port, world_blocked, ℕ, ◌∙◌, ◌∷◌, ◌≡◌}
+use Rattle.zl_calls.proofs.Common.{Blocked, Body, Bool, FiresWaits, IsConsistent, List, None, Object, Objects, Option, Packet, PacketAt, Process, ProcessValue}
+use Rattle.zl_calls.proofs.Common.{SignalOf, Some, StateValue, Wait, World, [], active, ap, awaited_of, false, false≢true, fired-same, fold, get, get_seen}
+use Rattle.zl_calls.proofs.Common.{has_child_job, has_child_process, holds, holds_now, is_due, is_empty, is_process, list_any, made_ready, map, meets}
+use Rattle.zl_calls.proofs.Common.{none_holds, not, object_value, packets_found, packets_of, process_entry, refl, signals_at, subst, sym, wakes, woken}
+use Rattle.zl_calls.proofs.Common.{woken_at_port, world_blocked, ℕ, ◌∙◌, ◌∷◌, ◌≡◌}
 use Rattle.zl_rights.specs.World.{Awaited}
-use Rattle.zl_code.proofs.Common.{Process as ProcessValue}
-use Rattle.zl_objects.specs.declared.object.Body.{Body}
 use Rattle.zl_objects.specs.declared.object.Body.TheVariants as body
-use Rattle.zl_objects.specs.declared.object.Object.{Object}
-use Rattle.zl_calls.specs.declared.process.Process.{Process}
 use Rattle.zl_calls.proofs.objects.Active.{signals_active}
-use Rattle.zl_rights.proofs.Waking.{fired-same}
 
 module _ (ps : List Process) (r : Objects) (consistent : IsConsistent ps r) where
   pub active_there : (blocked : List ℕ) (k : ℕ) → active (world_blocked ps r blocked) k ≡ signals_at r.objects k
@@ -55,7 +51,7 @@ module _ (ps : List Process) (r : Objects) (consistent : IsConsistent ps r) wher
     unfolding woken made_ready
     idle q quiet = by_process (get (map process_entry ps) q) refl
       where
-        by_state : (p : ProcessValue) → get (map process_entry ps) q ≡ Some p → (s : State) → p.state ≡ s
+        by_state : (p : ProcessValue) → get (map process_entry ps) q ≡ Some p → (s : StateValue) → p.state ≡ s
             → woken (world_blocked ps r blocked) q ≡ world_blocked ps r blocked
         by_state p there (Blocked (SignalOf k mask) ds) is =
             let none : meets (signals_at r.objects k) mask ≡ false = quiet p (SignalOf k mask) ds there is in

@@ -1,21 +1,15 @@
 -- A call blocks: it is a step up to where processes wake, its process is the last of the blocked, and the invariant holds afterwards.
-use Rattle.zl_calls.proofs.Common.{Agrees, AreBlocked, AtCall, Awaited, Blocked, CallName, IsActed, IsConsistent, Library, List, Map, None, Objects, Outcome}
-use Rattle.zl_calls.proofs.Common.{Ready, Settles, Site, Some, [], ap, awaited_by, blocked_in, has_ended, is_blocked, lives, next_for, on_process}
-use Rattle.zl_calls.proofs.Common.{plain_refusal, process_value, refl, runs, state_value, subst, sym, world_blocked, world_left, world_value, ℕ, ◌++◌, ◌<◌, ◌^◌}
-use Rattle.zl_calls.proofs.Common.{◌∙◌, ◌∷◌, ◌≡◌}
-use Rattle.zl_code.proofs.Common.{Process as ProcessValue, State}
+use Rattle.zl_calls.proofs.Common.{Agrees, AreBlocked, AtCall, Awaited, Blocked, Body, CallName, IsActed, IsConsistent, IsOwnDone, IsSound, Library, List, Map}
+use Rattle.zl_calls.proofs.Common.{None, Objects, Outcome, Process, ProcessValue, Ready, Request, Settles, Site, Some, StateValue, World, [], ap, awaited_by}
+use Rattle.zl_calls.proofs.Common.{blocked_in, handle_operands, has_ended, is_blocked, is_process, lives, new_handles, next_for, none-some, on_process}
+use Rattle.zl_calls.proofs.Common.{own_beside, plain_refusal, port_wait, process_value, refl, runs, settles_waiting, state_value, subst, sym, taken_handles}
+use Rattle.zl_calls.proofs.Common.{true, wait_one, without_handles, world_blocked, world_left, world_value, ℕ, ◌++◌, ◌<◌, ◌^◌, ◌∙◌, ◌∷◌, ◌≡◌}
 use Rattle.zl_code.specs.declared.history.Outcome.TheVariants as outcome
 use Rattle.zl_code.specs.declared.history.TraceItem.TheVariants as item
 use Rattle.zl_code.proofs.StepsWaiting.{block_waiting}
-use Rattle.zl_code.specs.Sound.{IsSound}
-use Rattle.zl_objects.specs.declared.object.Body.{Body}
-use Rattle.zl_calls.proofs.Common.{Request, World, handle_operands, is_process, none-some, port_wait, taken_handles, true, wait_one, without_handles}
 use Rattle.zl_code.proofs.StepsBeside.{blocks_among}
-use Rattle.zl_code.proofs.StepsWaiting.{settles_waiting}
-use Rattle.zl_code.specs.CallTable.{new_handles}
 use Rattle.zl_calls.proofs.calls.Owned.{IsMaker, own_plain, own_refused}
 use Rattle.zl_calls.proofs.step.OwnDone.{blocked_own, same_beside}
-use Rattle.zl_calls.specs.declared.process.Process.{Process}
 use Rattle.zl_calls.proofs.calls.Answered.{IsWrite}
 use Rattle.zl_calls.proofs.waking.BlockedLists.{one_asleep}
 use Rattle.zl_calls.proofs.waits.LeftWaits.{left_by, left_same}
@@ -24,7 +18,6 @@ use Rattle.zl_calls.proofs.step.FromConsistent.{IsFree}
 use Rattle.zl_calls.proofs.processes.Departed.{left_all, settled_world}
 use Rattle.zl_calls.proofs.objects.Settled.{still_settles}
 use Rattle.zl_calls.proofs.processes.Written.{alike_states, keeps_table}
-use Rattle.zl_calls.specs.Own.{IsOwnDone, own_beside}
 
 -- p stands at a call that isn't refused, and there is something to wait for; it is then p2, which waits for that
 pub record IsAsleep (lib : Library) (before : List Process) (r r2 : Objects) (p p2 : Process) (name : CallName) (o : Outcome) : Type 0 where
@@ -69,7 +62,7 @@ module _ {before after : List Process} {r : Objects} {p p2 : Process} (lib : Lib
       (sym (write.writes (λ q. record q { state = Blocked sleeps.awaited sleeps.at.destinations }) is))
     where
       is : process_value p2 ≡ record (process_value p) { state = Blocked sleeps.awaited sleeps.at.destinations }
-      is = ap process_value sleeps.process ∙ ap (λ (s : State). record (process_value p) { state = s }) sleeps.state
+      is = ap process_value sleeps.process ∙ ap (λ (s : StateValue). record (process_value p) { state = s }) sleeps.state
 
   -- beside registered waits and other blocked processes
   pub asleep_acts : (blocked : List ℕ) → IsFree lib (world_value before r) p.pid name → IsSound (world_blocked before r blocked)

@@ -1,25 +1,22 @@
 -- Who is blocked once a process has acted was so before, on the same, but for that process; so what each waits for stays known.
-use Rattle.zl_calls.proofs.Common.{AreBlocked, AreLeft, AreOrdered, AreSameButSleepers, AreSought, Blocked, Bool, DoesNext, IsTrue, IsUnlisted, KeepSleepers}
-use Rattle.zl_calls.proofs.Common.{Library, List, ListsLast, None, Objects, Option, Seeks, Sleeper, Some, State, TraceItem, [], ap, arith, awaited_of, bare}
-use Rattle.zl_calls.proofs.Common.{cases_Bool, each, eqb-true, false, false≢true, filter, filter-append, get, if◌then◌else◌, inl, inr, is_blocked, is_for}
-use Rattle.zl_calls.proofs.Common.{is_local, knowing, koid_of, listed_for, lives, map, process_entry, refl, same_Some, slept, state_passes}
-use Rattle.zl_calls.proofs.Common.{state_value, subst, sym, takes_at, then_blocked, times, times-behind, times-last, true, world_blocked, world_left, ℕ, ◌++◌}
-use Rattle.zl_calls.proofs.Common.{◌==◌, ◌∙◌, ◌∷◌, ◌≡◌, ◌≤◌, ◌⊎◌}
+use Rattle.zl_calls.proofs.Common.{AreBlocked, AreLeft, AreOrdered, AreSameButSleepers, AreSought, Blocked, Bool, DoesNext, FallsAsleep, IsSound, IsTrue}
+use Rattle.zl_calls.proofs.Common.{IsUnlisted, KeepSleepers, Library, List, ListsLast, None, Objects, Option, Process, ProcessValue, Seeks, Sleeper, Some}
+use Rattle.zl_calls.proofs.Common.{StateValue, TraceItem, [], ap, arith, awaited_found, awaited_in, awaited_of, bare, cases_Bool, each, eqb-true, false}
+use Rattle.zl_calls.proofs.Common.{false≢true, filter, filter-append, get, if◌then◌else◌, inl, inr, is_blocked, is_for, is_local, knowing, koid_of, listed_for}
+use Rattle.zl_calls.proofs.Common.{lives, map, other_way, process_entry, refl, same_Some, slept, state_passes, state_value, subst, sym, takes_at, tells_asleep}
+use Rattle.zl_calls.proofs.Common.{then_blocked, times, times-behind, times-last, true, world_blocked, world_left, ℕ, ◌++◌, ◌==◌, ◌∙◌, ◌∷◌, ◌≡◌, ◌≤◌, ◌⊎◌}
 use Rattle.std.proofs.lemmas.List.{append-nil}
 use Rattle.zl_rights.specs.World.{Awaited as AwaitedValue}
-use Rattle.zl_code.proofs.Common.{Process as ProcessValue, IsSound}
 use Rattle.zl_code.proofs.Frame.{act_leaves_others}
 use Rattle.zl_code.specs.Frame.{OthersMake, left_alone, woken as was_woken, was_started, was_killed, dropped}
 use Rattle.zl_code.specs.declared.history.Outcome.TheVariants as outcome
 use Rattle.zl_code.specs.declared.history.TraceItem.TheVariants as item
 use Rattle.zl_objects.specs.declared.awaited.Awaited.{Awaited}
-use Rattle.zl_calls.specs.Blocking.{ComesLast, FallsAsleep, awaited_found, awaited_in, tells_asleep}
-use Rattle.zl_calls.specs.declared.process.Process.{Process}
+use Rattle.zl_calls.specs.Blocking.{ComesLast}
 use Rattle.zl_calls.proofs.calls.Answered.{IsWrite}
 use Rattle.zl_calls.proofs.objects.SameButWaits.{beside_same, beside_world, one_bare}
 use Rattle.zl_calls.proofs.processes.Written.{found_after}
 use Rattle.zl_calls.proofs.waking.Ordered.{ends_in_order, left_fewer, none_among, same_ordered, stays_in_order, takes_awaited, takes_passes}
-use Rattle.zl_verify.proofs.OwnTable.{other_way}
 
 -- ---- what is known stays known
 
@@ -109,7 +106,7 @@ made_blocked x y a ds (was_started e v word was is) h = cc
 made_blocked x y a ds (was_killed is) h = cc
 made_blocked x y a ds (dropped was is) h = cc
 
-blocked_lives : (s : State) → is_blocked s ≡ true → lives s ≡ true
+blocked_lives : (s : StateValue) → is_blocked s ≡ true → lives s ≡ true
 blocked_lives (Blocked a ds) h = refl
 blocked_lives _ h = absurd (false≢true h)
 
@@ -151,7 +148,7 @@ module _ (lib : Library) (ps ps2 : List Process) (r r1 r2 : Objects) (b b2 : Lis
       none_left : ◌≡◌ {A = ℕ} (times pid b2) 0
       none_left = omega (arith, left_fewer b b2 left pid, not_listed)
 
-      by_state : (s : State) → is_blocked s ≡ true → (a : Awaited) × (awaited_in s ≡ Some a)
+      by_state : (s : StateValue) → is_blocked s ≡ true → (a : Awaited) × (awaited_in s ≡ Some a)
       by_state (Blocked a ds) h = (awaited_of a, refl)
       by_state _ h = absurd (false≢true h)
 
@@ -207,7 +204,7 @@ module _ (lib : Library) (ps ps2 : List Process) (r r1 r2 : Objects) (b b2 : Lis
         × (p.state ≡ Blocked a ds)
     takes_state k takes = by_process (get (map process_entry ps2) k) refl (takes_passes ps2 port k takes)
       where
-        by_state : (p : ProcessValue) → get (map process_entry ps2) k ≡ Some p → (s : State) → p.state ≡ s → is_blocked s ≡ true
+        by_state : (p : ProcessValue) → get (map process_entry ps2) k ≡ Some p → (s : StateValue) → p.state ≡ s → is_blocked s ≡ true
             → (q : ProcessValue) × (a : AwaitedValue) × (ds : List ℕ) × (get (map process_entry ps2) k ≡ Some q) × (q.state ≡ Blocked a ds)
         by_state p at (Blocked a ds) is h = (p, a, ds, at, is)
         by_state p at _ is h = absurd (false≢true h)

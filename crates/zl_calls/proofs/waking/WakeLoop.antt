@@ -1,13 +1,11 @@
 -- Blocked processes wake one after another, in the order of the list.
-use Rattle.zl_calls.proofs.Common.{AreBlocked, Bool, HaveLeft, IsConsistent, IsTrue, KeepSleepers, List, None, Objects, Some, WakesOne, Woke, World, []}
-use Rattle.zl_calls.proofs.Common.{and_one, ap, arith, cases_Bool, drop, eq-eqb, eqb-true, false, filter, fold, get, get_or, if◌then◌else◌, inl, inr}
-use Rattle.zl_calls.proofs.Common.{is_blocked, length, map, nat_lt, nat_tests, none-some, not, position, position-Some, position_or_len, process_entry, refl}
-use Rattle.zl_calls.proofs.Common.{state_passes, subst, suc, sym, take, times, true, woken, world_blocked, zero, ℕ, ◌++◌, ◌+◌, ◌<◌, ◌==◌, ◌^◌, ◌∙◌, ◌∷◌, ◌≡◌}
-use Rattle.zl_calls.proofs.Common.{◌≤◌}
+use Rattle.zl_calls.proofs.Common.{AreBlocked, Bool, HaveLeft, IsConsistent, IsTrue, KeepSleepers, List, None, Objects, Process, ProcessValue, Some, WakesOne}
+use Rattle.zl_calls.proofs.Common.{Woke, World, [], and_one, ap, arith, cases_Bool, drop, eq-eqb, eqb-true, false, filter, fold, get, get_or, held}
+use Rattle.zl_calls.proofs.Common.{if◌then◌else◌, inl, inr, is_blocked, length, map, nat_lt, nat_tests, none-some, not, position, position-Some}
+use Rattle.zl_calls.proofs.Common.{position_or_len, process_entry, refl, state_passes, subst, suc, sym, take, times, true, woken, world_blocked, zero, ℕ, ◌++◌}
+use Rattle.zl_calls.proofs.Common.{◌+◌, ◌<◌, ◌==◌, ◌^◌, ◌∙◌, ◌∷◌, ◌≡◌, ◌≤◌}
 use Rattle.std.proofs.lemmas.List.Sums.{fails_before_first}
-use Rattle.zl_code.proofs.Common.{Process as ProcessValue, drop_all}
-use Rattle.zl_calls.specs.declared.process.Process.{Process}
-use Rattle.zl_calls.specs.World.{held}
+use Rattle.zl_code.proofs.Common.{drop_all}
 use Rattle.zl_calls.specs.declared.waking.Woke.TheVariants as woke
 use Rattle.zl_calls.proofs.waking.BlockedLists.{none_filtered}
 use Rattle.zl_calls.proofs.lists.FilterInPlace.{drop_here, drop_out}

@@ -1,19 +1,15 @@
 -- A blocked process wakes, or stays blocked: the world afterwards, its invariant, and the list.
-use Rattle.zl_calls.proofs.Common.{Agrees, Blocked, Bool, IsConsistent, IsTrue, KeepSleepers, List, Map, None, Objects, Option, Packet, PacketAt, PortBody}
-use Rattle.zl_calls.proofs.Common.{Ready, SignalOf, Some, WakesOne, [], answered, ap, at_port, awake, body_packed, body_value, cases_Bool, changed_port}
-use Rattle.zl_calls.proofs.Common.{changing_port, destinations_of, drop, eqb-true, false, false≢true, filter, get, get-put, get-update, get_or, get_seen}
-use Rattle.zl_calls.proofs.Common.{given_awake, has_ended, if◌then◌else◌, inl, inr, is_blocked, is_process, is_some, is_sorted, is_sorted-update, lives}
-use Rattle.zl_calls.proofs.Common.{made_ready, map, meets, nat_cmp, not, object_entry, object_value, option_map, packet_taken, packet_values, packets_found}
-use Rattle.zl_calls.proofs.Common.{packets_of, passes, position, process_entry, process_value, put, refl, runs, same_map, set, signals_at, slice_get}
-use Rattle.zl_calls.proofs.Common.{sorted_put, state_value, sym, then_some, true, update, without_front, without_taken, woken, woken_at_port, woken_by}
-use Rattle.zl_calls.proofs.Common.{woken_from, world_blocked, world_value, ℕ, ◌==◌, ◌∙◌, ◌∷◌, ◌≡◌, ◌⊎◌}
-use Rattle.zl_code.proofs.Common.{Process as ProcessValue, Body as BodyValue, Object as ObjectValue, State}
-use Rattle.zl_objects.specs.declared.object.Object.{Object}
-use Rattle.zl_objects.specs.declared.object.Body.{Body}
+use Rattle.zl_calls.proofs.Common.{Agrees, Blocked, Body, Bool, IsConsistent, IsTrue, KeepSleepers, List, Map, None, Object, ObjectValue, Objects, Option}
+use Rattle.zl_calls.proofs.Common.{Packet, PacketAt, PortBody, Process, ProcessValue, Ready, SignalOf, Some, StateValue, WakesOne, [], answered, ap, at_port}
+use Rattle.zl_calls.proofs.Common.{awake, body_packed, body_value, cases_Bool, changed_port, changing_port, destinations_of, drop, eqb-true, false, false≢true}
+use Rattle.zl_calls.proofs.Common.{filter, get, get-put, get-update, get_or, get_seen, given_awake, has_ended, held, if◌then◌else◌, inl, inr, is_blocked}
+use Rattle.zl_calls.proofs.Common.{is_process, is_some, is_sorted, is_sorted-update, lives, made_ready, map, meets, nat_cmp, not, object_entry, object_value}
+use Rattle.zl_calls.proofs.Common.{option_map, packet_taken, packet_values, packets_found, packets_of, passes, position, process_entry, process_value, put}
+use Rattle.zl_calls.proofs.Common.{refl, runs, same_map, set, signals_at, slice_get, sorted_put, state_value, sym, then_some, true, update, without_front}
+use Rattle.zl_calls.proofs.Common.{without_taken, woken, woken_at_port, woken_by, woken_from, world_blocked, world_value, ℕ, ◌==◌, ◌∙◌, ◌∷◌, ◌≡◌, ◌⊎◌}
+use Rattle.zl_code.proofs.Common.{Body as BodyValue}
 use Rattle.zl_objects.specs.declared.object.Body.TheVariants as body
 use Rattle.zl_calls.specs.declared.process.State.TheVariants as state
-use Rattle.zl_calls.specs.declared.process.Process.{Process}
-use Rattle.zl_calls.specs.World.{held}
 use Rattle.zl_calls.proofs.calls.Answered.{IsWrite}
 use Rattle.zl_calls.proofs.waking.BlockedLists.{one_awake}
 use Rattle.zl_calls.proofs.objects.Packed.{packed_consistent}
@@ -51,7 +47,7 @@ nil-cons : {x : Packet} {xs : List Packet} → [] ≡ x ∷ xs → ⊥
 nil-cons e = cc
 
 -- a state that wakes passes the same tests of life as before
-lives_on : (s : State) → is_blocked s ≡ true → (runs s ≡ true) × (lives s ≡ true) × (has_ended s ≡ false)
+lives_on : (s : StateValue) → is_blocked s ≡ true → (runs s ≡ true) × (lives s ≡ true) × (has_ended s ≡ false)
 lives_on (Blocked awaited ds) h = (refl, refl, refl)
 lives_on _ h = absurd (false≢true h)
 
@@ -103,7 +99,7 @@ module _ (ps : List Process) (r : Objects) (consistent : IsConsistent ps r) (pid
       ready_entries = rw (← key)
           (after_is write ∙ put_there (map process_entry ps) p.pid (process_value p) (λ _. process_value p2) consistent.processes_in_order write.there)
 
-      tests_alike : (test : State → Bool) → test (state_value p.state) ≡ test Ready → (k : ℕ)
+      tests_alike : (test : StateValue → Bool) → test (state_value p.state) ≡ test Ready → (k : ℕ)
           → is_process (world_value after r2) test k ≡ is_process (world_value ps r2) test k
       tests_alike test alike k = alike_states write test (ap (λ (q : Process). test (state_value q.state)) is ∙ sym alike) r2 r2 k
 
@@ -131,7 +127,7 @@ module _ (ps : List Process) (r : Objects) (consistent : IsConsistent ps r) (pid
     by_signal koid mask ds in_state true holds is objects =
         let so : p2 ≡ record p { state = state.Ready; cpu = answered p.cpu ds (0 ∷ signals_at r.objects koid ∷ []) } =
         is
-        ∙ ap (λ (s : State). record p { state = state.Ready; cpu = answered p.cpu (destinations_of s) (0 ∷ signals_at r.objects koid ∷ []) }) in_state in
+        ∙ ap (λ (s : StateValue). record p { state = state.Ready; cpu = answered p.cpu (destinations_of s) (0 ∷ signals_at r.objects koid ∷ []) }) in_state in
         rw objects (gets_awake p2 r (ap (λ (q : Process). q.pid) so) ds (signals_at r.objects koid ∷ []) so (ap is_blocked in_state)
         consistent
         (λ blocked. woken_is blocked ∙ rw (in_state, active_there ps r consistent blocked koid, holds) refl))
@@ -196,13 +192,13 @@ module _ (ps : List Process) (r : Objects) (consistent : IsConsistent ps r) (pid
       by_packet None at (x ∷ rest) first is objects = absurd (nil-cons first)
       by_packet (Some o) at (x ∷ rest) first is objects =
           let so : p2 ≡ record p { state = state.Ready; cpu = answered p.cpu ds (0 ∷ packet_values x) } =
-          is ∙ ap (λ (s : State). record p { state = state.Ready; cpu = answered p.cpu (destinations_of s) (0 ∷ packet_values x) }) in_state in
+          is ∙ ap (λ (s : StateValue). record p { state = state.Ready; cpu = answered p.cpu (destinations_of s) (0 ∷ packet_values x) }) in_state in
           rw objects (gets_awake p2 (changing_port r port without_front) (ap (λ (q : Process). q.pid) so) ds (packet_values x) so (ap is_blocked in_state)
           (packed_consistent without_front ps r port consistent)
           (taken_at o x rest at first))
 
     -- whatever it is in
-    by_state : (s : State) → state_value p.state ≡ s → p2 ≡ awake (given_awake s r) p → r2 ≡ without_taken s r
+    by_state : (s : StateValue) → state_value p.state ≡ s → p2 ≡ awake (given_awake s r) p → r2 ≡ without_taken s r
         → WakesOne pid (is_some (given_awake s r)) ps r (set ps place p2) r2
     by_state (Blocked (SignalOf koid mask) ds) in_state is objects = by_signal koid mask ds in_state (meets (signals_at r.objects koid) mask) refl is objects
     by_state (Blocked (PacketAt port) ds) in_state is objects =
@@ -219,7 +215,7 @@ unfolding woken
 wakes_none ps r pid consistent missing = record { world = λ blocked. rw missing refl; list = λ blocked are. are; consistent = consistent; held = refl }
 
 -- it takes a packet at most, so who may be blocked is as before
-pub taken_asleep : (s : State) (r r2 : Objects) → r2 ≡ without_taken s r → KeepSleepers r r2
+pub taken_asleep : (s : StateValue) (r r2 : Objects) → r2 ≡ without_taken s r → KeepSleepers r r2
 taken_asleep (Blocked (PacketAt port) ds) r r2 is = (ap (λ (y : Objects). y.sleepers) is, ap (λ (y : Objects). y.crowded) is)
 taken_asleep (Blocked (SignalOf koid mask) ds) r r2 is = (ap (λ (y : Objects). y.sleepers) is, ap (λ (y : Objects). y.crowded) is)
 taken_asleep _ r r2 is = (ap (λ (y : Objects). y.sleepers) is, ap (λ (y : Objects). y.crowded) is)

@@ -1,5 +1,4 @@
-use Rattle.zl_calls.proofs.Common.{List, Some, ap, set, slice_get, slice_get-get_or, sym, ◌∙◌, ◌≡◌}
-use Rattle.zl_calls.specs.declared.process.Process.{Process}
+use Rattle.zl_calls.proofs.Common.{List, Process, Some, ap, set, slice_get, slice_get-get_or, sym, ◌∙◌, ◌≡◌}
 use Rattle.zl_calls.proofs.step.Calling.{acted_acts, again_there, policed_acts, policed_order, reached_acts, same_caller}
 use Rattle.zl_calls.proofs.calls.Performed.{same_pid}
 use Rattle.zl_calls.proofs.processes.InOrder.{set_in_order}

@@ -1,6 +1,5 @@
-use Rattle.zl_calls.proofs.Common.{IsCallerStill, None, Some, TRANSFER, WRITE, [], ap, arith, common_steps, get_or_from_slice_get, handle_operands, is_created}
-use Rattle.zl_calls.proofs.Common.{looked_up, operands_fault, parts, refl, reg, site_of, slice_get, slice_index, state_value, ◌∙◌, ◌∷◌, ◌≡◌}
-use Rattle.zl_calls.specs.declared.process.Process.{Process}
+use Rattle.zl_calls.proofs.Common.{IsCallerStill, None, Process, Some, TRANSFER, WRITE, [], ap, arith, common_steps, get_or_from_slice_get, handle_operands}
+use Rattle.zl_calls.proofs.Common.{is_created, looked_up, operands_fault, parts, refl, reg, site_of, slice_get, slice_index, state_value, ◌∙◌, ◌∷◌, ◌≡◌}
 use Rattle.zl_calls.proofs.parts.ReachParts.{counter_still, create_reaches, created_still, kill_reaches, start_reaches, still_within, told_pid, told_started}
 use Rattle.zl_calls.proofs.parts.StartParts.{stands_at}
 use Rattle.zl_calls.proofs.processes.InOrder.{set_in_order}

@@ -1,5 +1,4 @@
-use Rattle.zl_calls.proofs.Common.{drop, field_of, length, map, take, ◌++◌, ◌≡◌, ◌≤◌}
-use Rattle.zl_code.specs.Asked.{is_written, those}
+use Rattle.zl_calls.proofs.Common.{drop, field_of, is_written, length, map, take, those, ◌++◌, ◌≡◌, ◌≤◌}
 use Rattle.zl_calls.proofs.policy.written.Given as goal
 
 abbrev pub invariant-loop-n : goal.invariant-loop-n

@@ -1,5 +1,4 @@
-use Rattle.zl_calls.proofs.Common.{ap, inl, is_created, is_ready, parts, set, state_value, sym, true, ◌∙◌, ◌≡◌}
-use Rattle.zl_calls.specs.declared.process.Process.{Process}
+use Rattle.zl_calls.proofs.Common.{Process, ap, inl, is_created, is_ready, parts, set, state_value, sym, true, ◌∙◌, ◌≡◌}
 use Rattle.zl_calls.proofs.processes.Idle.{are_closed}
 use Rattle.zl_calls.proofs.processes.InOrder.{set_in_order}
 use Rattle.zl_calls.proofs.processes.Started.{set_started}

@@ -1,5 +1,4 @@
-use Rattle.zl_calls.proofs.Common.{and_parts, is_keyed, is_keyed_at, refl, sym}
-use Rattle.zl_signals.specs.Waits.{is_keyed_here, wait_at}
+use Rattle.zl_calls.proofs.Common.{and_parts, is_keyed, is_keyed_at, is_keyed_here, refl, sym, wait_at}
 use Rattle.zl_calls.proofs.waits.TakenEnds.{all_at, all_taken, any_ended, fewer_taken, one_cancelled}
 use Rattle.zl_calls.proofs.waits.cancel_waits.Goals as goal
 

@@ -1,5 +1,5 @@
-use Rattle.zl_calls.proofs.Common.{is_made_at, sym, ◌∙◌}
-use Rattle.zl_signals.specs.Waits.{is_by_handle_here, wait_at}
+use Rattle.zl_calls.proofs.Common.{is_made_at, sym, wait_at, ◌∙◌}
+use Rattle.zl_signals.specs.Waits.{is_by_handle_here}
 use Rattle.zl_calls.proofs.waits.OwnWaits.{none_end}
 use Rattle.zl_calls.proofs.waits.TakenEnds.{all_taken, fewer_taken, one_taken, unless_empty}
 use Rattle.zl_calls.proofs.waits.end_made_at.Goals as goal

@@ -1,5 +1,4 @@
-use Rattle.zl_calls.proofs.Common.{sym, wait_value, ◌∙◌}
-use Rattle.zl_signals.specs.Waits.{is_keyed_here}
+use Rattle.zl_calls.proofs.Common.{is_keyed_here, sym, wait_value, ◌∙◌}
 use Rattle.zl_calls.proofs.waits.Ending.{held_stays, unheld_ended, unheld_ends, unheld_fewer}
 use Rattle.zl_calls.proofs.waits.end_unheld.Goals as goal
 

@@ -1,5 +1,4 @@
-use Rattle.zl_calls.proofs.Common.{ap, arith, map, refl, ℕ, ◌+◌, ◌-◌, ◌∙◌, ◌≡◌}
-use Rattle.zl_calls.specs.Leaving.{left_beside}
+use Rattle.zl_calls.proofs.Common.{ap, arith, left_beside, map, refl, ℕ, ◌+◌, ◌-◌, ◌∙◌, ◌≡◌}
 use Rattle.zl_calls.proofs.boot.BootConsistent.{all_swept, none_swept, one_swept}
 use Rattle.zl_calls.proofs.processes.Departed.{left_keeps}
 use Rattle.zl_calls.proofs.boot.Made.settle.Goals as goal

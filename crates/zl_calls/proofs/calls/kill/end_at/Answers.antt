@@ -1,5 +1,4 @@
-use Rattle.zl_calls.proofs.Common.{ap, ended_within, ◌∙◌}
-use Rattle.zl_calls.specs.declared.process.Process.{Process}
+use Rattle.zl_calls.proofs.Common.{Process, ap, ended_within, ◌∙◌}
 use Rattle.zl_calls.proofs.processes.InOrder.{set_in_order}
 use Rattle.zl_calls.proofs.processes.Started.{ended_started, set_started}
 use Rattle.zl_calls.proofs.processes.Written.{write_at}

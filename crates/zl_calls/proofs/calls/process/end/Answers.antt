@@ -1,8 +1,6 @@
-use Rattle.zl_calls.proofs.Common.{EndsOwn, rules, subst}
+use Rattle.zl_calls.proofs.Common.{EndsOwn, ObjectEnds, Process, rules, subst}
 use Rattle.zl_calls.proofs.waits.OwnWaits.{own_over}
 use Rattle.zl_calls.proofs.waits.WaitsLost.{listed_over}
-use Rattle.zl_objects.specs.Release.{Ends as ObjectEnds}
-use Rattle.zl_calls.specs.declared.process.Process.{Process}
 use Rattle.zl_calls.proofs.calls.process.end.Goals as goal
 
 pub returns : goal.returns

@@ -1,7 +1,6 @@
-use Rattle.zl_calls.proofs.Common.{Image, ap, can_be_needed, is_allowing, is_among, job_at, list_any, not, rules, sym, ◌&&◌, ◌∙◌}
+use Rattle.zl_calls.proofs.Common.{Image, action_here, ap, can_be_needed, is_allowing, is_among, job_at, list_any, not, rules, sym, ◌&&◌, ◌∙◌}
 use Rattle.std.proofs.lemmas.Iterator.Search.{any_from_yields_List}
 use Rattle.std.proofs.lemmas.Iterator.{YieldsList-from_slice}
-use Rattle.zl_objects.specs.Jobs.{action_here}
 use Rattle.zl_calls.proofs.calls.Needs.{any_needed}
 use Rattle.zl_calls.proofs.calls.process.lacks_need.Goals as goal
 

@@ -1,5 +1,4 @@
-use Rattle.zl_calls.proofs.Common.{[], ap, arith, is_created, length, refl, state_value, ◌<◌}
-use Rattle.zl_calls.specs.declared.process.Process.{Process}
+use Rattle.zl_calls.proofs.Common.{Process, [], ap, arith, is_created, length, refl, state_value, ◌<◌}
 use Rattle.zl_calls.proofs.parts.StartParts.{caller_inside, caller_still, refused_so, refused_still, started_inside, starts_so, written_twice}
 use Rattle.zl_calls.proofs.processes.InOrder.{set_in_order}
 use Rattle.zl_calls.proofs.processes.Started.{set_started}

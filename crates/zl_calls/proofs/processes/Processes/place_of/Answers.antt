@@ -1,6 +1,5 @@
-use Rattle.zl_calls.proofs.Common.{process_value, rules, ◌∙◌}
+use Rattle.zl_calls.proofs.Common.{Process, process_value, rules, ◌∙◌}
 use Rattle.std.proofs.lemmas.List.Sorted.{answers_always}
-use Rattle.zl_calls.specs.declared.process.Process.{Process}
 use Rattle.zl_objects.proofs.Searching.{searched}
 use Rattle.zl_calls.proofs.processes.Written.{place_is}
 use Rattle.zl_calls.proofs.processes.Processes.place_of.Goals as goal

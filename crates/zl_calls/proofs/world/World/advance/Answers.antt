@@ -1,7 +1,5 @@
-use Rattle.zl_calls.proofs.Common.{Cpu, Program, Some, Stands, after_locals, ap, get, is_ready, length-set, map, on_process, position, process_entry}
-use Rattle.zl_calls.proofs.Common.{process_value, refl, slice_get, state_value, sym, true, world_blocked, ◌==◌, ◌∙◌, ◌≡◌}
-use Rattle.zl_calls.specs.World.{free_entry}
-use Rattle.zl_calls.specs.declared.process.Process.{Process}
+use Rattle.zl_calls.proofs.Common.{Cpu, Process, Program, Some, Stands, after_locals, ap, free_entry, get, is_ready, length-set, map, on_process, position}
+use Rattle.zl_calls.proofs.Common.{process_entry, process_value, refl, slice_get, state_value, sym, true, world_blocked, ◌==◌, ◌∙◌, ◌≡◌}
 use Rattle.zl_calls.proofs.step.Advancing.{advances, advanced_programs, advanced_sound, cpu_stands, program_stands, read_there, ready_there}
 use Rattle.zl_calls.proofs.step.Covered.{advanced_covered}
 use Rattle.zl_calls.proofs.step.LocalMoves.{moved_awake, moved_keeps, moved_list, moved_world}

@@ -1,5 +1,4 @@
-use Rattle.zl_calls.proofs.Common.{All-nil, AreBlocked, HasBegun, IsBoot, arith, boot_awake, boot_covered, map, sym, world_blocked, ◌∙◌}
-use Rattle.zl_calls.specs.World.{free_entry}
+use Rattle.zl_calls.proofs.Common.{All-nil, AreBlocked, HasBegun, IsBoot, arith, boot_awake, boot_covered, free_entry, map, sym, world_blocked, ◌∙◌}
 use Rattle.zl_code.proofs.ProgramsKept.{boot_programs}
 use Rattle.zl_calls.proofs.boot.BootBlocked.{booted_boots, booted_sound, booted_world, none_blocked}
 use Rattle.zl_calls.proofs.waking.Ordered.{none_ordered}

@@ -1,10 +1,7 @@
-use Rattle.zl_calls.proofs.Common.{AreBlocked, List, Seeks, TakesStep, arith, false, false≢true, is_local, length, refl, subst, sym, then_blocked, true}
-use Rattle.zl_calls.proofs.Common.{vec_capacity}
-use Rattle.zl_calls.proofs.Common.{ℕ, ◌∙◌, ◌≡◌, ◌≤◌}
+use Rattle.zl_calls.proofs.Common.{AreBlocked, List, Seeks, TakesStep, arith, false, false≢true, held, is_local, length, refl, subst, sym, tells_asleep}
+use Rattle.zl_calls.proofs.Common.{then_blocked, true, vec_capacity, ℕ, ◌∙◌, ◌≡◌, ◌≤◌}
 use Rattle.zl_objects.specs.declared.awaited.Awaited.{Awaited}
-use Rattle.zl_calls.specs.Blocking.{tells_asleep}
 use Rattle.zl_calls.specs.Calling.{left_in}
-use Rattle.zl_calls.specs.World.{held}
 use Rattle.zl_calls.specs.declared.waking.Woke.TheVariants as woke
 use Rattle.zl_calls.proofs.waking.BlockedLists.{no_more}
 use Rattle.zl_calls.proofs.waking.StillBlocked.{acted_ordered, acted_sought, same_seeks, silent}

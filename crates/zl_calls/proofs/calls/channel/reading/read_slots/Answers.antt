@@ -1,6 +1,5 @@
-use Rattle.zl_calls.proofs.Common.{None, arith, common_steps, handle_operands, number_at, operands_fault, reg, slice_get, slice_index, sym, ◌≡◌}
+use Rattle.zl_calls.proofs.Common.{None, arith, common_steps, handle_operands, number_at, operands_fault, reg, room_in, slice_get, slice_index, sym, ◌≡◌}
 use Rattle.zl_calls.proofs.calls.ReaderTold.{at_read_slots, length_same, room_is, slots_act, values_fit}
-use Rattle.zl_code.specs.Asked.{room_in}
 use Rattle.zl_code.specs.declared.history.CallName.TheVariants as name
 use Rattle.zl_calls.proofs.policy.Faultless.{faultless_at}
 use Rattle.zl_calls.proofs.tables.Granted.{finds}

@@ -1,5 +1,4 @@
-use Rattle.zl_calls.proofs.Common.{[], drop, list_refusal, take, ◌≡◌}
-use Rattle.zl_calls.specs.calls.Channel.{filled}
+use Rattle.zl_calls.proofs.Common.{[], drop, filled, list_refusal, take, ◌≡◌}
 use Rattle.zl_calls.proofs.calls.channel.writing.examine_places.Given as goal
 
 abbrev pub invariant-loop-n : goal.invariant-loop-n

@@ -1,8 +1,6 @@
 use Rattle.zl_code.specs.declared.history.CallName.TheVariants as name
-use Rattle.zl_calls.proofs.Common.{Cpu, Some, [], ap, arith, common_steps, drop, false≢true, handle_operands, operands_fault, refl, reg, replicate, slice_index}
-use Rattle.zl_calls.proofs.Common.{sym, take, ◌∙◌, ◌≡◌}
-use Rattle.zl_code.specs.Asked.{array_in, bytes_in, emptied_count, filled_among}
-use Rattle.zl_code.specs.Effects.{slots_filled}
+use Rattle.zl_calls.proofs.Common.{Cpu, Some, [], ap, arith, array_in, bytes_in, common_steps, drop, emptied_count, false≢true, filled_among, handle_operands}
+use Rattle.zl_calls.proofs.Common.{operands_fault, refl, reg, replicate, slice_index, slots_filled, sym, take, ◌∙◌, ◌≡◌}
 use Rattle.zl_code.specs.Local.{is_in_memory}
 use Rattle.zl_calls.proofs.policy.Faultless.{faultless_at}
 use Rattle.zl_calls.proofs.policy.Examining.{list_fault}

@@ -1,4 +1,6 @@
 """Cases: an input, and what stands beside it; for tests/try-cases, which says what these are, and tests/try-memory."""
+import re
+
 from meaning.lab import Lab
 from meaning.texts import assembled
 from meaning.zlt import taken
@@ -29,6 +31,10 @@ def content(path, program=None):
     """The bytes of an input, with numbers for its names; of a text that is to be checked, those of its image. What
     stands for a line `rest` is asked of the program."""
     words, given = beside(path, ".args"), path.read_bytes()
+    if path.suffix in (".times", ".hex"):
+        given = re.sub(rb"<(\d+) TIMES ([^>]*)>", lambda found: int(found[1]) * found[2], given)
+    if path.suffix == ".hex":
+        return bytes.fromhex(re.sub("#.*", "", given.decode()))
     if path.suffix == ".zlt":
         given, _ = taken(path, given, program and Lab(program))
     if path.suffix in (".zasm", ".zlt") and words.exists() and words.read_text().startswith("check\n"):

@@ -46,14 +46,22 @@ pub fn push_first_no_number(
 }
 
 /// Adds which number was meant by a word that has hexadecimal digits, as the assembler has them, or
-/// names rights.
+/// names rights, or what gives one to its name.
 pub fn push_meant(hint: &mut String, word: &[u8]) -> Result<(), AllocError> {
+    if word.starts_with(b"@") {
+        return push_names(hint);
+    }
     let (text, number) = match (hexadecimal(word), rights_named(word)) {
         (Some(number), _) => ("; hexadecimal is only the assembler's; # is #", number),
         (None, Some(number)) => ("; # is #", number),
         (None, None) => return Ok(()),
     };
     push_text(hint, text, &[Value::Word(word), Value::Number(number)])
+}
+
+/// Adds what takes names with `@` in place of numbers.
+pub fn push_names(hint: &mut String) -> Result<(), AllocError> {
+    hint.push_str("; tools/names FILE writes numbers for names")
 }
 
 /// The number of the hexadecimal digits behind `0x`.

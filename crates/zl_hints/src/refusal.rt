@@ -3,11 +3,13 @@
 
 mod advice;
 mod arrays;
+mod budget;
 mod code;
 mod known;
 mod memory;
 mod places;
 mod register;
+mod rounds;
 mod ways;
 
 use arrays::push_array;

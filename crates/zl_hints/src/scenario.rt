@@ -4,7 +4,7 @@ use crate::above::{Above, Part, read_above};
 use crate::checked::push_refused_block;
 use crate::handles::{push_no_handle, push_no_object, push_wrong_handles};
 use crate::jobs::{push_job, push_no_job, push_policy};
-use crate::numbers::{decimal, push_first_no_number, push_no_number};
+use crate::numbers::{decimal, push_first_no_number, push_names, push_no_number};
 use crate::page::push_page;
 use crate::source::Source;
 use std::alloc::{AllocError, Global};
@@ -143,9 +143,17 @@ fn push_line_fault(
         Part::Schedule => push_turns(hint, words, above)?,
         _ => push_statement(hint, alloc, lines, words, above, cause)?,
     }
+    push_comment(hint, words)
+}
+
+/// Adds where a comment begins, if one of the words begins as one does, here or elsewhere.
+fn push_comment(hint: &mut String, words: &[&[u8]]) -> Result<(), AllocError> {
     for word in words {
         if word.starts_with(b"#") {
             return hint.push_str("; # begins a comment only as the first byte of a line");
+        }
+        if word.contains(&b';') || word.starts_with(b"//") {
+            return hint.push_str("; a comment begins with # here, as the first byte of its line");
         }
     }
     Ok(())
@@ -193,6 +201,9 @@ fn push_no_statement(
     above: &Above,
 ) -> Result<(), AllocError> {
     write!(hint, "no statement is called {}", Word(name))?;
+    if name.starts_with(b"@") {
+        return push_names(hint);
+    }
     if decimal(name).is_none() {
         return push_nearest(hint, alloc, name, &STATEMENTS);
     }

@@ -10,7 +10,7 @@ use crate::zircon::push_name_here;
 use std::alloc::{AllocError, Global};
 use zl_asm::numbers::{is_name, number, register};
 use zl_asm::words::is;
-use zl_code::{Ending, HandleList, Row};
+use zl_code::{Ending, Field, HandleList, Row};
 
 /// Adds which instruction was meant by the first of these words, a name that none has, or what the line
 /// is.
@@ -106,11 +106,37 @@ pub fn push_instruction_operand(
             if wanted == TARGET {
                 return Ok(());
             }
-            return push_number_named(hint, word, false);
+            push_number_named(hint, word, false)?;
+            return push_const(hint, &row, index, words);
         }
     }
     let text = "# has room for 0 to 8 handles, three registers each, up to r31";
     push_text(hint, text, &[Name(row.name)])
+}
+
+/// Adds how the number in this place comes into a register, where one is wanted that is read: into the one
+/// that is written where that is all, into any at the end of the program.
+fn push_const(
+    hint: &mut String,
+    row: &Row,
+    index: usize,
+    words: &[&[u8]],
+) -> Result<(), AllocError> {
+    let is_read = matches!(row.columns.fields.get(index), Some(Field::Reads));
+    let word = words.get(index.saturating_mul(2)).copied().unwrap_or(b"");
+    if !is_read || number(word).is_none() {
+        return Ok(());
+    }
+    let into: &[u8] = match words {
+        [first, ..] if row.name == "mov" && no_register(first).is_none() => first,
+        _ if row.name == "process_exit" => b"r2",
+        _ => b"..",
+    };
+    push_text(
+        hint,
+        "; const #, # puts it in one",
+        &[Word(into), Word(word)],
+    )
 }
 
 /// Adds how many operands there are, and how many the instruction takes.

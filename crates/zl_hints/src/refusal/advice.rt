@@ -34,6 +34,10 @@ pub fn push_advice(
             let text = advice_on_nil(site, place.register, value);
             push_text(hint, text, &[register, register])
         }
+        (Cause::Leak, _) if is_of_an_earlier_round(site, place.register) => {
+            let text = "; r# may still have the handle of the round before: close it first";
+            push_text(hint, text, &[register])
+        }
         (Cause::Leak, _) => hint.push_str("; close it first, or take it to another register"),
         (Cause::NotWord, _) => hint.push_str(advice_on_numbers(site.parts.opcode)),
         _ => Ok(()),
@@ -93,6 +97,12 @@ fn start_of(site: &Site, register: Register) -> Option<Start> {
 /// Whether what the register has, a handle, is the one of its line `.start`: nothing writes the register.
 fn is_of_start(site: &Site, register: Register) -> bool {
     start_of(site, register).is_some() && !is_written(site, site.image.len(), register)
+}
+
+/// Whether the handle in the register can come from this instruction alone, done before: no start gives
+/// one, and no other instruction writes the register.
+fn is_of_an_earlier_round(site: &Site, register: Register) -> bool {
+    start_of(site, register).is_none() && !is_written(site, site.image.len(), register)
 }
 
 /// The register that has the kind number of the handle in this one, or its rights.

@@ -60,11 +60,17 @@ pub fn push_need(hint: &mut String, site: &Site) -> Result<(), AllocError> {
 
 /// Adds where the instruction jumps to.
 pub fn push_target(hint: &mut String, site: &Site) -> Result<(), AllocError> {
-    let last = site.image.len().saturating_sub(1);
-    let values = [Number(u64::from(site.parts.target())), Number(last as u64)];
+    let count = site.image.len();
+    let target = site.parts.target();
+    let text = if target as usize == count {
+        "it leads to #, and the last instruction is #: nothing stands behind a label there"
+    } else {
+        "it leads to #, and the last instruction is #"
+    };
+    let last = count.saturating_sub(1);
     push_text(
         hint,
-        "it leads to #, and the last instruction is #",
-        &values,
+        text,
+        &[Number(u64::from(target)), Number(last as u64)],
     )
 }

@@ -1,9 +1,11 @@
 //! Ways through the code: two that meet, and one that is too long.
 
+use crate::refusal::budget::least_budget;
 use crate::refusal::known::{REGISTERS, numbered, push_value};
+use crate::refusal::rounds::advice_on_round;
 use std::alloc::{AllocError, Global};
 use zl_code::{Image, Register};
-use zl_program_hints::Value::Number;
+use zl_program_hints::Value::{Name, Number};
 use zl_program_hints::push_text;
 use zl_verify::{Seen, Stride, Way, seen_in, way_from};
 
@@ -51,7 +53,10 @@ pub fn push_long_way(
         &[Number(u64::from(image.budget()))],
     )?;
     match way_from(alloc, image, at) {
-        Some(way) => push_way(hint, &way),
+        Some(way) => {
+            push_way(hint, &way)?;
+            push_remedy(hint, alloc, image, &way)
+        }
         None => Ok(()),
     }
 }
@@ -70,13 +75,30 @@ fn push_way(hint: &mut String, way: &Way) -> Result<(), AllocError> {
             text = " ";
         }
     }
-    match way.again {
-        Some(place) => {
-            let text = " and again #: no budget will do";
-            push_text(hint, text, &[Number(place as u64)])
-        }
-        None if way.count > u64::from(Image::MOST_BUDGET) => {
-            hint.push_str(", which are more than 1000000: no budget will do")
+    Ok(())
+}
+
+/// Adds where the way goes round, or how long it is, and what to do.
+fn push_remedy(
+    hint: &mut String,
+    alloc: Global,
+    image: &Image,
+    way: &Way,
+) -> Result<(), AllocError> {
+    if let Some(place) = way.again {
+        let values = [
+            Number(place as u64),
+            Name(advice_on_round(image, way, place)),
+        ];
+        return push_text(hint, " and again #: no budget will do; #", &values);
+    }
+    if way.count > u64::from(Image::MOST_BUDGET) {
+        return hint.push_str(", which are more than 1000000: no budget will do");
+    }
+    match least_budget(alloc, image, way.count) {
+        Some(least) => {
+            let text = ", which are #: a budget of # would do, and no smaller one";
+            push_text(hint, text, &[Number(way.count), Number(least)])
         }
         None => {
             let text = ", which are #: no smaller budget will do";

@@ -86,6 +86,13 @@ class Lab:
             raise Answered(status)
         return output
 
+    def must_boot(self, scenario):
+        """Asks whether it takes a scenario without turns; if not, its answer is passed on, and that is all. That there
+        are no turns isn't told."""
+        status, _ = self.answer([], scenario, is_told=False)
+        if status:
+            self.must([], scenario)
+
     def written(self, words, given):
         """What it writes, where its status is 0; else Trouble says in its words what is wrong."""
         status, output, said = self.start(words, given)

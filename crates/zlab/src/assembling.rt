@@ -33,7 +33,7 @@ const TOO_LONG: AsmFault = AsmFault {
 };
 
 /// Reads the text of a program, and writes the bytes of the image that it denotes to `image`, or
-/// the line `refused LINE CAUSE` to `line`; a text above 4,194,304 bytes is `refused 0 Limit`. All
+/// the line `refused LINE FAULT` to `line`; a text above 4,194,304 bytes is `refused 0 Limit`. All
 /// input is read before anything is written, and nothing is written to the other writer. To `hints` it
 /// adds for a person why the text is refused.
 ///

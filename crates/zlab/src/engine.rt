@@ -27,8 +27,8 @@ use zl_trace::{empty_block, write_all};
 /// objects of their kind. It is the lab's own: from the lab's boot world on, each item is what the lab
 /// itself does next, or a call that wanted memory. It has as many items as the scenario's limit at
 /// most, and no more is read than one byte past 4,194,304. To `hints` it adds for a person why the
-/// input is refused, and of a run that the trace is full, whose turns are of nobody, why each stuck
-/// process is stuck, and that nobody can go on.
+/// input is refused, and of a run that the trace is full, that there are no turns or whose are of nobody,
+/// why each stuck process is stuck, and that nobody can go on.
 /// A fault of the reader is `Read`, with nothing written. A fault of the writer, and a want of memory,
 /// leave nothing or a beginning of such an answer.
 pub fn step_engine<R: Read, W: Write>(

@@ -7,5 +7,5 @@
 mod replay;
 mod run;
 
-pub use replay::{explain_difference, explain_line};
-pub use run::{explain_run, explain_threads};
+pub use replay::{explain_difference, explain_items, explain_line};
+pub use run::{explain_nothing, explain_run, explain_threads};

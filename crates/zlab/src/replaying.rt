@@ -9,7 +9,7 @@ ghost use Rattle.zlab.specs.Replay.{AnswersReplay, AreItems, BeginsReplay, Comes
 
 use crate::engine::{TOO_LONG, fault_of_boot};
 use crate::fault::{EngineFault, Verdict};
-use crate::hints::{explain_difference, explain_line};
+use crate::hints::{explain_difference, explain_items, explain_line};
 use crate::input::{Input, read_front, read_input};
 use crate::text::{push_refusal, push_trace_refusal};
 use std::alloc::{AllocError, Global};
@@ -47,12 +47,12 @@ enum Items {
 /// Reads a scenario, in which a line `--` is a fault, and a trace, and writes to `line` what comes of
 /// them: `replayed N` where the N items of the trace are a legal history from a boot world of the
 /// scenario, and the lab's own, `differs N` where item N, from 1, is the first that the lab's own steps
-/// don't give, as `replay` says, `refused LINE CAUSE` for the first fault of the scenario, and else
+/// don't give, as `replay` says, `refused LINE FAULT` for the first fault of the scenario, and else
 /// `refused trace LINE Syntax` for the first line of the trace that is to be an item's and isn't, or
 /// `refused trace 0 Limit` for more than 134,217,728 bytes. The scenario's limit is none of the trace:
 /// it may have 1,000,000 items, and the next one differs. All input is read before anything is written,
 /// and no more than one byte past its limit. To `hints` it adds for a person why the answer is none of
-/// the first.
+/// the first, or that the trace has no items.
 ///
 /// A fault of a reader is `Read`, with nothing written. A fault of the writer, and a want of memory,
 /// leave nothing or a beginning of such a line.
@@ -104,10 +104,10 @@ fn found_in(
     }
 }
 
-/// Says why the items aren't all replayed.
+/// Says why the items aren't all replayed, or that there are none.
 fn explain(hints: &mut String, alloc: Global, text: &[u8], front: &[u8], found: Replayed) {
     match found {
-        Replayed::All(_) => {}
+        Replayed::All(count) => explain_items(hints, count),
         Replayed::Differs(number) => explain_difference(hints, alloc, text, front, number),
         Replayed::Refused(fault) => explain_scenario(hints, alloc, LONE_SCENARIO, text, fault),
         Replayed::RefusedTrace(fault) => explain_line(hints, alloc, front, fault.line),

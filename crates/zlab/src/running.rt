@@ -6,7 +6,7 @@ ghost use Rattle.zlab.specs.Running.{AnswersRun, BeginsRunAnswer, BeginsThreads,
 
 use crate::engine::{TOO_LONG, fault_of_boot, write_refusal};
 use crate::fault::{EngineFault, Verdict};
-use crate::hints::explain_threads;
+use crate::hints::{explain_nothing, explain_threads};
 use crate::input::{Input, read_input};
 use crate::replaying::{alone, statement_fault};
 use std::alloc::Global;
@@ -87,8 +87,11 @@ fn start(
     match input {
         Input::Text(text) => {
             let started = boot_alone(alloc, text.as_slice(), limit)?;
-            if let Started::Refused(fault) = &started {
-                explain_scenario(hints, alloc, LONE_SCENARIO, text.as_slice(), *fault);
+            match &started {
+                Started::Ready(_) => explain_nothing(hints, text.as_slice()),
+                Started::Refused(fault) => {
+                    explain_scenario(hints, alloc, LONE_SCENARIO, text.as_slice(), *fault)
+                }
             }
             Ok(started)
         }

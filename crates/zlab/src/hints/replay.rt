@@ -36,6 +36,13 @@ const OUTCOMES: [&str; 18] = [
     "ended",
 ];
 
+/// Adds a line where so many items are none.
+pub fn explain_items(hints: &mut String, count: usize) {
+    if count == 0 && hints.push_str("zlab: the trace has no items\n").is_err() {
+        hints.clear();
+    }
+}
+
 /// Adds a line that says what the lab has in place of the item of this place, from 1, of the trace.
 pub fn explain_difference(
     hints: &mut String,

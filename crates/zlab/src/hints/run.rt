@@ -5,6 +5,7 @@ use zl_asm::words::is;
 use zl_calls::World;
 use zl_code::{Boot, CallName, ProcState, TraceItem};
 use zl_hints::Source;
+use zl_lines::is_comment;
 use zl_program_hints::Value::{Name, Number};
 use zl_program_hints::{Line, Stuck, explain_stuck, numbered_lines, push_text, words_of};
 use zl_rights::Pid;
@@ -13,8 +14,11 @@ use zl_sched::{End, System};
 /// How many processes of many are told of.
 const SHOWN: usize = 4;
 
-/// Adds a line where the trace is full, or else where turns are of nobody; one for each process that is
-/// stuck; and one where the run ended because nobody can go on. The schedule is that of the input.
+const NO_STATEMENTS: &str = "zlab: the input has no statements\n";
+
+/// Adds a line where the trace is full, where there are no turns, or else where turns are of nobody; one
+/// for each process that is stuck; and one where the run ended because nobody can go on. The schedule is
+/// that of the input.
 pub fn explain_run(
     hints: &mut String,
     alloc: Global,
@@ -27,12 +31,20 @@ pub fn explain_run(
     let world = system.world();
     let pushed = match end {
         End::Limit => push_full(hints, system.items().len()),
+        _ if has_no_turns(schedule) => push_no_turns(hints, input),
         _ => push_nobody(hints, alloc, source, input, world, schedule),
     };
     if pushed.is_err() {
         hints.clear();
     }
     explain_processes(hints, alloc, system);
+}
+
+/// Adds a line where a scenario without a schedule has no statements.
+pub fn explain_nothing(hints: &mut String, input: &[u8]) {
+    if !has_statements(input) && hints.push_str(NO_STATEMENTS).is_err() {
+        hints.clear();
+    }
 }
 
 /// Adds a line where the trace of a run on threads is full; one for each process that is stuck; and one
@@ -78,6 +90,33 @@ fn push_full(hints: &mut String, count: usize) -> Result<(), AllocError> {
         "zlab: the trace has # items, and no trace has more\n"
     };
     push_text(hints, text, &[Number(count)])
+}
+
+fn has_no_turns(schedule: &[(Pid, u32)]) -> bool {
+    schedule.iter().all(|(_, count)| *count == 0)
+}
+
+/// Adds that nobody runs, as the input has no turns or nothing at all.
+fn push_no_turns(hints: &mut String, input: &[u8]) -> Result<(), AllocError> {
+    hints.push_str(if has_statements(input) {
+        "zlab: there are no turns: nobody runs\n"
+    } else {
+        NO_STATEMENTS
+    })
+}
+
+/// Whether a line of the input, which isn't refused, is a statement or part of one.
+fn has_statements(input: &[u8]) -> bool {
+    for line in input.split(|byte| *byte == b'\n') {
+        let words = line.trim_ascii();
+        if is(words, b"--") {
+            return false;
+        }
+        if !words.is_empty() && !is_comment(line) {
+            return true;
+        }
+    }
+    false
 }
 
 /// Adds whose turns are the first that are of nobody, in all of the run.

@@ -10,7 +10,7 @@ pub const FORMS: &str = "\
 The forms of a command line:
   zlab < INPUT
       Without words, reads standard input: a scenario, a line `--` and a schedule. Runs the scenario
-      along the schedule and writes the trace, or `refused LINE CAUSE` for the first faulty line.
+      along the schedule and writes the trace, or `refused LINE FAULT` for the first faulty line.
       Example: zlab < examples/event.zls
   zlab step SCENARIO SCHEDULE
       Does the same with the scenario and the schedule in two files, joined by a line `--`; lines are
@@ -20,17 +20,17 @@ The forms of a command line:
       Runs the scenario in the file SCENARIO, which has no schedule, on N threads, for at most M
       items of trace in place of the scenario's limit; N is 1 to 64, and M 0 to 1000000. Writes the
       trace that came about, with `end quiet` where no process is ready at the end, `end limit` or
-      `end memory`, or `refused LINE CAUSE`.
+      `end memory`, or `refused LINE FAULT`.
       Example: zlab run pair.zls --workers 4 --limit 1000
   zlab replay SCENARIO TRACE
       Does the steps of the trace in the file TRACE again, from the scenario in the file SCENARIO,
       which has no schedule. Writes `replayed N` for the number of its items, `differs N` for the
-      first that the lab's own steps don't give, or `refused LINE CAUSE`, with `trace` before the
+      first that the lab's own steps don't give, or `refused LINE FAULT`, with `trace` before the
       line of a trace.
       Example: zlab replay pair.zls pair.trace
   zlab asm IN OUT
       Assembles the text in the file IN, and writes the image to the file OUT, or
-      `refused LINE CAUSE`. OUT is emptied before IN is read, so let it be another file.
+      `refused LINE FAULT`. OUT is emptied before IN is read, so let it be another file.
       Example: zlab asm ping.zasm ping.zli
   zlab check IMAGE
       Writes what the verifier says of the image in the file IMAGE: `accepted`,

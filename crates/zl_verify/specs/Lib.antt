@@ -7,9 +7,6 @@ pub mod Peaks
 pub mod Search
 pub mod Marks
 pub mod Stretches
-pub mod Going
-pub mod Handing
-pub mod Low
 pub mod Leading
 pub mod Ahead
 pub mod Checks

@@ -1,4 +1,4 @@
-use crate::least::solve;
+use crate::search::solve;
 use std::alloc::Global;
 use zl_abs::{AbsState, Bounds};
 use zl_code::Image;

@@ -197,7 +197,7 @@ handle_if : (P : AbsVal → Type 0) (t : Bool) (v : AbsVal) → P v → IfSome (
 handle_if P true v h = h
 handle_if P false v h = tt
 
-joined_fits : (a b : AbsVal) → Fits a → Fits b → IfSome (joined a b) Fits
+pub joined_fits : (a b : AbsVal) → Fits a → Fits b → IfSome (joined a b) Fits
 unfolding joined
 joined_fits (Word m) (Word n) h k = word_fits m n h k
 joined_fits (Word m) (Has x i r) h k = handle_if Fits (eqb m 0) (Has true i r) k

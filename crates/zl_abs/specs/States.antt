@@ -1,5 +1,6 @@
 -- Abstract states: a value for each register. Their order, the least state above two, and the start.
-use Rattle.std.specs.Prelude.{ℕ, ◌≡◌, ◌+◌, IsTrue, Bool, true, false, ◌&&◌, ◌==◌, List, [], ◌∷◌, map, replicate, length, Option, Some, None, slice_index_or, slice_set}
+use Rattle.std.specs.Prelude.{ℕ, ◌≡◌, ◌+◌, IsTrue, Bool, true, false, ◌&&◌, ◌==◌, List, [], ◌∷◌, map, replicate, length, Option, Some, None, slice_index_or, slice_set, if◌then◌else◌}
+use Rattle.std.specs.Option.{option_map}
 use Rattle.zl_code.specs.declared.image.Start.{Start}
 use Rattle.zl_code.specs.Limits.{register_count}
 use Rattle.zl_code.specs.Image.{Image}
@@ -59,6 +60,14 @@ abbrev pub can_be_named : AbsVal → Bool
 can_be_named (Word m) = m == 0
 can_be_named (Has maybe k r) = true
 can_be_named _ = false
+
+-- the register becomes v; where nothing can be named there any more, tags on it become any word
+abbrev pub raised_at : State → ℕ → AbsVal → State
+raised_at s r v = if can_be_named v then refined s r v else with_value s r v
+
+-- the least such state in which the register has what it had and this, if there is one
+abbrev pub risen : State → ℕ → AbsVal → Option State
+risen s r v = if below v (value_at s r) then Some s else option_map (raised_at s r) (joined (value_at s r) v)
 
 -- the tag, if it is one, names a register that is 0 or has a handle
 abbrev pub is_named_well : State → AbsVal → Bool

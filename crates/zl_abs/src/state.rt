@@ -1,4 +1,4 @@
-ghost use Rattle.std.specs.Prelude.{◌≡◌, ◌≤◌, ◌<◌, Some, None, IfSome, IfNone, not, length, map, replicate};
+ghost use Rattle.std.specs.Prelude.{◌≡◌, ◌≤◌, ◌<◌, Some, None, IfSome, IfNone, not, false, length, map, replicate};
 ghost use Rattle.std.specs.Bool.{then_some};
 ghost use Rattle.std.specs.List.{list_any};
 ghost use Rattle.std.specs.Result.{result_ok};
@@ -6,7 +6,7 @@ ghost use Rattle.zl_code.specs.Limits.{register_count};
 ghost use Rattle.zl_abs.specs.declared.value.AbsVal.TheVariants as value;
 ghost use Rattle.zl_abs.specs.Values.{untagged, retagged};
 ghost use Rattle.zl_abs.specs.Tags.{is_tag};
-ghost use Rattle.zl_abs.specs.States.{all_below, all_joined, value_at, with_value, with_all, refined, starts_from, start_value, start_state};
+ghost use Rattle.zl_abs.specs.States.{all_below, all_joined, raised_at, value_at, with_value, with_all, refined, risen, starts_from, start_value, start_state};
 ghost use Rattle.zl_abs.specs.LocalRules.{moved};
 ghost use Rattle.zl_abs.specs.Rule.{word_at};
 ghost use Rattle.zl_abs.specs.Changes.{changed};
@@ -137,6 +137,35 @@ impl AbsState {
         ensures none { IfNone result (all_joined self.old other.now ≡ None) }
     {
         raise_all(&mut self.registers, &other.registers)
+    }
+
+    /// The register gets the least value above its own and this one; where nothing can be named there
+    /// any more, no tag names it. Whether it rose; nothing where no value is above both.
+    pub fn raise_at(&mut self, register: Register, value: &AbsVal) -> Option<bool>
+        ensures risen { IfSome result (λ rose. risen self.old register value.now ≡ Some self.new) }
+        ensures same { result ≡ Some false → self.new ≡ self.old }
+        ensures none { IfNone result (risen self.old register value.now ≡ None) }
+        ensures kept { IfNone result (self.new ≡ self.old) }
+    {
+        if value.is_below(self.get(register)) {
+            return Some(false);
+        }
+        let Some(joined) = self.get(register).join(*value) else {
+            return None;
+        };
+        self.set_risen(register, &joined);
+        Some(true)
+    }
+
+    /// The register becomes this; where nothing can be named there any more, no tag names it.
+    fn set_risen(&mut self, register: Register, value: &AbsVal)
+        ensures { self.new ≡ raised_at self.old register value.now }
+    {
+        if value.is_nameable() {
+            self.refine(register, *value);
+        } else {
+            self.write(register, *value);
+        }
     }
 
     /// The value of `source` goes to `destination`, and its tags with it.

@@ -3,6 +3,7 @@ ghost use Rattle.zl_rights.specs.Numbers.{same_kind};
 ghost use Rattle.zl_abs.specs.declared.value.AbsVal.TheVariants.{Has};
 ghost use Rattle.zl_abs.specs.Values.{below, joined, is_has, bound_of, kind_below, kind_joined, untagged, retagged};
 ghost use Rattle.zl_abs.specs.Tags.{is_tag};
+ghost use Rattle.zl_abs.specs.States.{can_be_named};
 
 use bitflags::Flags;
 use zl_code::Register;
@@ -83,6 +84,17 @@ pub(crate) fn is_register(register: Register, other: Register) -> bool
 }
 
 impl AbsVal {
+    /// Whether a tag may name a register with this value: it is 0, or has a handle.
+    pub(crate) fn is_nameable(self) -> bool
+        ensures { result ≡ can_be_named self }
+    {
+        match self {
+            AbsVal::Word(most) => most == 0,
+            AbsVal::Has { .. } => true,
+            _ => false,
+        }
+    }
+
     /// Whether each number that this describes is described by the other too.
     #[tactic(auto, unfolding(crate::specs::Values::below))]
     pub fn is_below(self, other: AbsVal) -> bool

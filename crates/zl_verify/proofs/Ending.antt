@@ -3,32 +3,17 @@ use Rattle.zl_verify.proofs.Common.{AllFine, Stretches, Bool, Cause, Edge, IfOk,
 use Rattle.zl_verify.proofs.Common.{all_below, all_joined, ap, arith, at, stretch, cleared, false, fine_joined, get_or, get_or_from_slice_get, if◌then◌else◌}
 use Rattle.zl_verify.proofs.Common.{inl, inr, is_in_range, length, length-set, mul-le-mul_right, one_if, option_and_then, option_map, raised, raised_all}
 use Rattle.zl_verify.proofs.Common.{raised_over}
-use Rattle.zl_verify.proofs.Common.{refl, same_Some, slice_get, slice_set, start_of, subst, sum_by, sum_by-set, sym, true, ℕ, ◌*◌, ◌+◌, ◌-◌, ◌<◌, ◌∙◌, ◌∷◌, ◌≡◌}
+use Rattle.zl_verify.proofs.Common.{refl, same_Some, slice_get, slice_set, start_of, subst, sum_by-set, sym, true, ℕ, ◌*◌, ◌+◌, ◌-◌, ◌<◌, ◌∙◌, ◌∷◌, ◌≡◌}
 use Rattle.zl_verify.proofs.Common.{◌≢◌, ◌≤◌, ◌⊎◌}
-use Rattle.zl_abs.proofs.Room.{room, TOP, room_top, room_falls}
+use Rattle.zl_abs.proofs.Room.{room, room_top, room_falls}
 use Rattle.zl_verify.specs.Lists.{within}
+use Rattle.zl_verify.specs.Going.{AreFine, energy, remaining, room_in}
 use Rattle.zl_verify.specs.Search.{Table, put}
 use Rattle.zl_verify.proofs.Leaving.{out_fine}
 use Rattle.zl_verify.proofs.Places.{there, get_put, get_put_other, equal_or_not}
 
-abbrev pub room_in : Option State → ℕ
-room_in None = TOP
-room_in (Some s) = room s
-
--- it falls whenever an instruction is looked at
-unfoldable pub energy : Table → ℕ
-energy t = 2 * sum_by room_in t.states + sum_by one_if t.waiting
-
--- it falls at each turn of the loop
-unfoldable pub remaining : Table → ℕ
-remaining t = energy t * (length t.states + 1) + (length t.states - t.from)
-
 smaller : (e d l k a b : ℕ) → l ≡ k → e + 1 ≤ d → e * (l + 1) + (l - a) < d * (k + 1) + (k - b)
 smaller e d l k a b p h = rw p (let m = mul-le-mul_right (k + 1) h in omega arith)
-
-pub record AreFine (t : Table) : Type 0 where
-  pub each : (n : ℕ) (s : State) → at t.states n ≡ Some s → IsFine s
-  pub same : length t.states ≡ length t.waiting
 
 -- ---- one state comes to an instruction
 
@@ -55,16 +40,16 @@ put_falls t n o j e q h =
     let c = sum_by-set one_if t.waiting n true false k2 in
     omega arith
 
-record Eases (t u : Table) : Type 0 where
-  fine : AreFine u
-  no_more : energy u ≤ energy t
-  long : length u.states ≡ length t.states
+pub record Eases (t u : Table) : Type 0 where
+  pub fine : AreFine u
+  pub no_more : energy u ≤ energy t
+  pub long : length u.states ≡ length t.states
 
-abbrev EasesOr : Table → Option Table → Type 0
+abbrev pub EasesOr : Table → Option Table → Type 0
 EasesOr t None = Unit {0}
 EasesOr t (Some u) = Eases t u
 
-easing : (t : Table) (n : ℕ) (s : State) → AreFine t → IsFine s → EasesOr t (raised t n s)
+pub easing : (t : Table) (n : ℕ) (s : State) → AreFine t → IsFine s → EasesOr t (raised t n s)
 easing t n s f g = found (slice_get t.states n) refl
   where
     puts : (o : Option State) (j : State) → slice_get t.states n ≡ Some o → IsFine j → room j < room_in o → Eases t (put t n j)

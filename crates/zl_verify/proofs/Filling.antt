@@ -8,7 +8,8 @@ use Rattle.zl_verify.specs.Stretches.{inner_last, listed}
 use Rattle.zl_verify.proofs.Places.{mapped}
 use Rattle.zl_verify.proofs.Parting.{AreParted, rule_parted}
 use Rattle.zl_verify.proofs.Lowers.{typed_at}
-use Rattle.zl_verify.proofs.Leaving.{at_starts, begins_at}
+use Rattle.zl_verify.specs.Going.{at_starts}
+use Rattle.zl_verify.proofs.Leaving.{begins_at}
 
 -- ---- lists of what a function gives
 

@@ -4,15 +4,12 @@ use Rattle.zl_verify.proofs.Common.{Option, Out, Some, State, [], and_then, ap, 
 use Rattle.zl_verify.proofs.Common.{length, option_and_then, option_map, out, out_from, raised, raised_all, refl, rule, rule_fine, slice_get, start_of, subst}
 use Rattle.zl_verify.proofs.Common.{suc, sym, turned_over, zero, ℕ, ◌+◌, ◌-◌, ◌<◌, ◌∙◌, ◌∷◌, ◌≡◌, ◌≤◌}
 use Rattle.zl_abs.specs.Typing.{Holds}
+use Rattle.zl_verify.specs.Going.{at_starts}
 use Rattle.zl_verify.specs.Search.{Table}
 use Rattle.zl_verify.specs.Stretches.{start_or, Went, went_last, went_first, went, stepped}
 use Rattle.zl_verify.proofs.Places.{there}
 use Rattle.zl_verify.proofs.Parting.{AreParted, rule_parted}
 use Rattle.zl_verify.proofs.Lowers.{typed_at, inside}
-
--- a typing's states where stretches begin
-abbrev pub at_starts : Image → Stretches → (ℕ → Option State) → ℕ → Option State
-at_starts i bs y b = y (start_of i bs b)
 
 pub begins_at : (i : Image) (bs : Stretches) → AreStretches i bs → (n b : ℕ) → at bs.numbers n ≡ Some b → start_of i bs b ≡ n
 begins_at i bs a n b e = rw (a.begin n b e) refl

@@ -19,6 +19,10 @@ pub mod Turning
 pub mod Leading
 pub mod Bounding
 pub mod PassingOn
+pub mod HandingOn
+pub mod NamedByCalls
+pub mod NextNamed
+pub mod Lifting
 pub mod LookingAhead
 pub mod Suiting
 pub mod Raising

@@ -7,6 +7,7 @@ use Rattle.zl_abs.specs.Laws.{AllAboveJoin, JoinIsAllAbove}
 use Rattle.zl_abs.specs.Typing.{Holds}
 use Rattle.zl_abs.proofs.StateOrder.{all_joined_left, all_joined_right, all_joined_least}
 use Rattle.zl_verify.specs.Lists.{within}
+use Rattle.zl_verify.specs.Going.{Lower, Quiet}
 use Rattle.zl_verify.specs.Search.{Table, put}
 use Rattle.zl_verify.proofs.Places.{get_put, get_put_other, there, nowhere, equal_or_not}
 
@@ -15,10 +16,6 @@ above_trans None s t h k = k
 above_trans (Some u) s t h k = all_below_trans s t u h k
 
 -- ---- what one state does to the table
-
--- none below the place to go on from waits
-abbrev pub Quiet : Table → Type 0
-Quiet t = (n : ℕ) → n < t.from → slice_get t.waiting n ≡ Some true → ⊥
 
 pub record Rises (t u : Table) : Type 0 where
   pub quiet : Quiet t → Quiet u
@@ -92,10 +89,6 @@ put_rises t n j q h k = record {
         ⊎ (slice_get (slice_set t.waiting n true) m ≡ Some true)
     kept m (inl p) = inr (subst (λ (x : ℕ). slice_get (slice_set t.waiting n true) x ≡ Some true) p (get_put t.waiting n true (omega arith)))
     kept m (inr d) = inl (ap within (get_put_other t.states n m (Some j) d), get_put_other t.waiting n m true d)
-
--- every state of the table is below each typing's
-abbrev pub Lower : (ℕ → Option State) → Table → Type 0
-Lower y t = (n : ℕ) (s : State) → at t.states n ≡ Some s → IsAbove (y n) s
 
 pub put_lower : (y : ℕ → Option State) (t : Table) (n : ℕ) (j : State) → n < length t.states → Lower y t → IsAbove (y n) j → Lower y (put t n j)
 put_lower y t n j h l a m s e = by (equal_or_not n m)

@@ -1,21 +1,15 @@
 -- The search for the least typing, stretch by stretch: what holds at each turn of it.
-use Rattle.zl_verify.proofs.Common.{AreStretches, Stretches, Bool, Cause, Edge, Err, Image, IsAbove, IsTyping, List, None, Ok, Option, Result, Some, State}
+use Rattle.zl_verify.proofs.Common.{AreStretches, Stretches, Bool, Cause, Edge, Err, Image, IsTyping, List, None, Ok, Option, Result, Some, State}
 use Rattle.zl_verify.proofs.Common.{arith, at, stretch, cleared, false, inl, inr, length, length-set, none-some, raised_all, refl, same_Some, slice_get}
 use Rattle.zl_verify.proofs.Common.{slice_set, start_state, subst, sym, true, ℕ, ◌+◌, ◌<◌, ◌∙◌, ◌≡◌, ◌≢◌, ◌≤◌, ◌⊎◌}
 use Rattle.zl_abs.specs.Typing.{Holds}
+use Rattle.zl_verify.specs.Going.{Quiet, Searching, at_starts}
 use Rattle.zl_verify.specs.Search.{Table}
 use Rattle.zl_verify.proofs.Places.{get_put_other, off, nowhere, equal_or_not, mapped}
-use Rattle.zl_verify.proofs.Rising.{Quiet, Lower, AllRaise, AllRaiseOr, leads_still, typed_still, raising_all}
-use Rattle.zl_verify.proofs.Leaving.{at_starts, leads_out, at_stretch}
+use Rattle.zl_verify.proofs.Rising.{AllRaise, AllRaiseOr, leads_still, typed_still, raising_all}
+use Rattle.zl_verify.proofs.Leaving.{leads_out, at_stretch}
 
 -- ---- the search
-
-pub record Searching (i : Image) (bs : Stretches) (t : Table) : Type 0 where
-  pub same : length t.states ≡ length t.waiting
-  pub begins : IsAbove (at t.states 0) (start_state i)
-  pub settled : (n : ℕ) (s : State) → at t.states n ≡ Some s → slice_get t.waiting n ≡ Some false → Holds (at t.states) (stretch i bs n s)
-  pub lower : (y : ℕ → Option State) → IsTyping i y → Lower (at_starts i bs y) t
-  pub quiet : Quiet t
 
 -- no rule at a state that was found: no typing
 pub none_by_rule : (i : Image) (bs : Stretches) → AreStretches i bs → (t : Table) → Searching i bs t → (n : ℕ) (s : State) → at t.states n ≡ Some s

@@ -6,24 +6,17 @@ use Rattle.zl_verify.proofs.Common.{slice_set, start_fine, start_state, states_o
 use Rattle.zl_verify.proofs.Common.{◌⊎◌}
 use Rattle.zl_abs.specs.Typing.{Holds}
 use Rattle.zl_verify.specs.Lists.{within}
+use Rattle.zl_verify.specs.Going.{Goes, at_starts, remaining}
 use Rattle.zl_verify.specs.Search.{Table, started}
 use Rattle.zl_verify.specs.Stretches.{turned_at, turned}
 use Rattle.zl_verify.specs.declared.refusal.RefusalCause.{RefusalCause}
 use Rattle.zl_verify.specs.declared.refusal.RefusalCause.TheVariants as why
 use Rattle.zl_verify.proofs.Places.{get_put, get_put_other, equal_or_not, there}
-use Rattle.zl_verify.proofs.Searching.{Searching, turned_on, cleared_on, moved_on, all_settled, none_by_rule, none_by_edge}
+use Rattle.zl_verify.proofs.Searching.{turned_on, cleared_on, moved_on, all_settled, none_by_rule, none_by_edge}
 use Rattle.zl_verify.proofs.Lowers.{outside}
-use Rattle.zl_verify.proofs.Leaving.{at_starts, begins_at}
+use Rattle.zl_verify.proofs.Leaving.{begins_at}
 use Rattle.zl_verify.proofs.Filling.{least_typing}
-use Rattle.zl_verify.proofs.Ending.{AreFine, remaining, tiring, clearing, moving}
-
--- what holds at each turn
-pub record Goes (i : Image) (bs : Stretches) (t : Table) : Type 0 where
-  pub stretches : AreStretches i bs
-  pub searching : Searching i bs t
-  pub fine : AreFine t
-  pub long : length t.states ≡ length bs.starts
-  pub range : IsTrue (is_in_range i)
+use Rattle.zl_verify.proofs.Ending.{tiring, clearing, moving}
 
 pub record GoesOn (i : Image) (bs : Stretches) (t u : Table) : Type 0 where
   pub goes : Goes i bs u

@@ -7,6 +7,9 @@ pub mod Peaks
 pub mod Search
 pub mod Marks
 pub mod Stretches
+pub mod Going
+pub mod Handing
+pub mod Low
 pub mod Leading
 pub mod Ahead
 pub mod Checks

@@ -12,9 +12,10 @@ ghost use Rattle.zl_code.specs.Headline.{IsNeverRefused};
 ghost use Rattle.zl_verify.specs.NoLeak.{NeverLeaks};
 
 use crate::ahead::bound_ahead;
+use crate::least::{Found, solve};
 use crate::peaks::{Unbounded, bound_of};
 use crate::refusal::{Refusal, RefusalCause};
-use crate::search::{Fault, Found, solve};
+use crate::search::Fault;
 use crate::seen::Seen;
 use crate::steps::Longest;
 use crate::targets::targets_of;

@@ -1,4 +1,4 @@
-//! The search for the least typing of an image. It knows nothing of handles.
+//! A search for the least typing of an image. It knows nothing of handles.
 //!
 //! A state is kept for the first instruction of each stretch alone. Within a stretch one state is
 //! followed from instruction to instruction, so that these want no place in the table, no copy and no
@@ -7,15 +7,15 @@
 ghost use Rattle.std.specs.Prelude.{◌≡◌, ◌≤◌, ◌<◌, ◌+◌, ◌++◌, length, Some, true, slice_get, IsTrue, IfOk, IfErr};
 ghost use Rattle.std.specs.Bool.{then_some};
 ghost use Rattle.std.specs.Result.{is_ok};
-ghost use Rattle.zl_code.specs.Spells.{is_in_range};
 ghost use Rattle.zl_abs.specs.Bounds.{RoundAlike, bounds_of};
 ghost use Rattle.zl_abs.specs.States.{start_state};
 ghost use Rattle.zl_abs.specs.Changes.{changed, step_in};
 ghost use Rattle.zl_abs.specs.Typing.{rule};
+ghost use Rattle.zl_verify.specs.Going.{Goes, remaining};
 ghost use Rattle.zl_verify.specs.Lists.{at};
 ghost use Rattle.zl_verify.specs.Search.{put, raised, turned_over, cleared, started};
-ghost use Rattle.zl_verify.specs.Stretches.{AreStretches, entered, out_from, states_of, stepped, told, turned, went, went_last};
-ghost use Rattle.zl_verify.specs.Checks.{IsLeastTyping, IsRefused, is_of_rules};
+ghost use Rattle.zl_verify.specs.Stretches.{entered, out_from, stepped, told, turned, went, went_last};
+ghost use Rattle.zl_verify.specs.Checks.{IsRefused, is_of_rules};
 
 use crate::edges::edges_at;
 use crate::refusal::RefusalCause;
@@ -45,7 +45,7 @@ impl Fault {
 
 /// How far the search has come.
 #[derive(Drop)]
-struct Search {
+pub(crate) struct Search {
     // What was found of the first instruction of each stretch, if a way to it was.
     states: Vec<Option<AbsState>>,
     // Which states rose since their stretch was looked at.
@@ -67,7 +67,7 @@ impl Model for Search {
 
 impl Search {
     /// Of so many stretches the first alone has a state, that of the start, and waits.
-    fn new(alloc: Global, image: &Image, count: usize) -> Result<Search, AllocError>
+    pub fn new(alloc: Global, image: &Image, count: usize) -> Result<Search, AllocError>
         requires { 0 < count }
         ensures { IfOk result (λ search. search ≡ started count (start_state image.now)) }
     {
@@ -83,7 +83,7 @@ impl Search {
     }
 
     /// The stretch to look at next.
-    fn place(&self) -> usize
+    pub fn place(&self) -> usize
         ensures { result ≡ self.now.from }
     {
         self.from
@@ -103,7 +103,7 @@ impl Search {
         self.from += 1;
     }
 
-    fn found(self) -> Vec<Option<AbsState>>
+    pub fn found(self) -> Vec<Option<AbsState>>
         ensures { result.items ≡ self.states }
     {
         self.states
@@ -120,7 +120,7 @@ impl Search {
     }
 
     /// A state comes to a stretch. Not where the stretch isn't there, or no state is above both.
-    fn raise(&mut self, place: usize, state: &AbsState) -> bool
+    pub fn raise(&mut self, place: usize, state: &AbsState) -> bool
         ensures { then_some result self.new ≡ raised self.old place state.now }
     {
         if place >= self.states.len() {
@@ -141,7 +141,9 @@ impl Search {
     }
 
     /// What was found of the stretch.
-    fn known_at(&self, stretch: usize) -> Option<AbsState> {
+    pub fn known_at(&self, stretch: usize) -> Option<AbsState>
+        ensures { result ≡ at self.now.states stretch }
+    {
         match self.states.get(stretch) {
             Some(known) => *known,
             None => None,
@@ -340,71 +342,40 @@ impl Search {
             seen,
         )
     }
-}
 
-/// What a search found: the stretches, and what is known where each begins. What is known at the other
-/// instructions follows from that.
-#[derive(Drop)]
-pub(crate) struct Found {
-    pub stretches: Stretches,
-    pub states: Vec<Option<AbsState>>,
-}
-
-/// What is known at these stretches of the image in its least typing.
-fn settle(
-    alloc: Global,
-    bounds: &Bounds,
-    image: &Image,
-    stretches: &Stretches,
-    seen: &mut Seen,
-) -> Result<Vec<Option<AbsState>>, Fault>
-    requires alike { RoundAlike bounds.now (bounds_of image.now.code) }
-    requires in_range { IsTrue (is_in_range image.now) }
-    requires stretches { AreStretches image.now stretches.now }
-    ensures typing { IfOk result (λ states. IsLeastTyping image.now
-        (at (states_of image.now stretches.now.numbers states.items))) }
-    ensures exact { IfErr result (λ fault. IsRefused image.now fault.at fault.cause) }
-{
-    let count = stretches.count();
-    let Ok(mut search) = Search::new(alloc, image, count) else {
-        return Err(Fault::at_once(RefusalCause::NoMemory));
-    };
-    while search.place() < count {
-        let stretch = search.place();
-        if search.is_waiting(stretch) {
-            match search.turn(bounds, image, stretches, stretch, seen) {
-                Ok(()) => {}
-                Err(fault) => return Err(fault),
-            }
-        } else {
-            search.go_on();
+    /// How many instructions are looked at next, at most.
+    pub fn cost(&self, image: &Image, stretches: &Stretches) -> usize {
+        match self.waiting.get(self.from) {
+            Some(true) => stretches
+                .start(image, self.from.saturating_add(1))
+                .saturating_sub(stretches.start(image, self.from)),
+            _ => 0,
         }
     }
-    Ok(search.found())
-}
 
-/// The least typing of the image. Bounds of words are rounded up by `bounds`. Of an image that has no
-/// typing, `seen` gets what was known where that was seen.
-pub(crate) fn solve(
-    alloc: Global,
-    bounds: &Bounds,
-    image: &Image,
-    seen: &mut Seen,
-) -> Result<Found, Fault>
-    requires alike { RoundAlike bounds.now (bounds_of image.now.code) }
-    ensures typing { IfOk result (λ found. IsLeastTyping image.now
-        (at (states_of image.now found.stretches.numbers found.states.items))) }
-    ensures exact { IfErr result (λ fault. IsRefused image.now fault.at fault.cause) }
-{
-    let length = image.len();
-    if length == 0 {
-        return Err(Fault::at_once(RefusalCause::Rule(Cause::FallsOff)));
-    }
-    let Ok(stretches) = Stretches::of(alloc, image) else {
-        return Err(Fault::at_once(RefusalCause::NoMemory));
-    };
-    match settle(alloc, bounds, image, &stretches, seen) {
-        Ok(states) => Ok(Found { stretches, states }),
-        Err(fault) => Err(fault),
+    /// The next stretch is looked at, if it waits, or passed over.
+    pub fn advance(
+        &mut self,
+        bounds: &Bounds,
+        image: &Image,
+        stretches: &Stretches,
+        seen: &mut Seen,
+    ) -> Result<(), Fault>
+        requires alike { RoundAlike bounds.now (bounds_of image.now.code) }
+        requires goes { Goes image.now stretches.now self.old }
+        requires more { self.old.from < length stretches.now.starts }
+        ensures goes { IfOk result (λ done. Goes image.now stretches.now self.new) }
+        ensures less { IfOk result (λ done. remaining self.new < remaining self.old) }
+        ensures exact { IfErr result (λ fault. IsRefused image.now fault.at fault.cause) }
+    {
+        let stretch = self.place();
+        if !self.is_waiting(stretch) {
+            self.go_on();
+            return Ok(());
+        }
+        match self.turn(bounds, image, stretches, stretch, seen) {
+            Ok(()) => Ok(()),
+            Err(fault) => Err(fault),
+        }
     }
 }

@@ -1,4 +1,4 @@
-use crate::search::solve;
+use crate::least::solve;
 use std::alloc::Global;
 use zl_abs::{AbsState, Bounds};
 use zl_code::Image;

@@ -14,7 +14,7 @@ ghost use Rattle.zl_verify.specs.Nested.{places, IsNested, IsPacked};
 ghost use Rattle.zl_verify.specs.Leading.{flow_in, target_in, unless_pause, AreTargets};
 
 use crate::edges::edges_at;
-use crate::search::Found;
+use crate::least::Found;
 use crate::steps::Targets;
 use std::alloc::{AllocError, Global};
 use zl_abs::{AbsState, Bounds, Step, Steps};

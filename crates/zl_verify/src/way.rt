@@ -5,7 +5,7 @@ ghost use Rattle.zl_verify.specs.Lists.{at};
 ghost use Rattle.zl_verify.specs.Stretches.{states_of};
 ghost use Rattle.zl_verify.specs.Checks.{IsLeastTyping};
 
-use crate::search::{Found, solve};
+use crate::least::{Found, solve};
 use crate::seen::Seen;
 use crate::steps::{Longest, Targets, longest_ways, pair_at};
 use crate::targets::targets_of;

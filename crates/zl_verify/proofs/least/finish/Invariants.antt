@@ -1,6 +1,5 @@
-use Rattle.zl_verify.proofs.Turning.{Goes}
-use Rattle.zl_verify.proofs.Ending.{remaining}
-use Rattle.zl_verify.proofs.search.settle.Given as goal
+use Rattle.zl_verify.specs.Going.{Goes, remaining}
+use Rattle.zl_verify.proofs.least.finish.Given as goal
 
 abbrev pub invariant-loop-search : goal.invariant-loop-search
 invariant-loop-search l = Goes l.image l.stretches l.search

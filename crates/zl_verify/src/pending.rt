@@ -1,0 +1,62 @@
+use crate::register_set::RegisterSet;
+use std::alloc::{AllocError, Global};
+
+/// At which instructions registers rose since they were done, and which. No clause says so: a search
+/// goes by it.
+#[derive(Drop)]
+pub(crate) struct Pending {
+    registers: Vec<RegisterSet>,
+    // The instructions at which some did, 64 to a word.
+    places: Vec<u64>,
+}
+
+impl Pending {
+    /// At none of so many instructions.
+    pub fn none(alloc: Global, size: usize) -> Result<Pending, AllocError> {
+        let registers = vec![in alloc; RegisterSet::NONE; size]?;
+        let places = vec![in alloc; 0; size / 64 + 1]?;
+        Ok(Pending { registers, places })
+    }
+
+    /// These rose there too.
+    pub fn note(&mut self, place: usize, risen: RegisterSet) {
+        let word = place / 64;
+        if place < self.registers.len() && word < self.places.len() {
+            self.registers[place] = self.registers[place].with(risen);
+            self.places[word] |= 1 << (place % 64);
+        }
+    }
+
+    /// Those that rose there, which are done now.
+    pub fn take(&mut self, place: usize) -> RegisterSet {
+        let word = place / 64;
+        if place >= self.registers.len() || word >= self.places.len() {
+            return RegisterSet::NONE;
+        }
+        let risen = self.registers[place];
+        self.registers[place] = RegisterSet::NONE;
+        self.places[word] &= !(1 << (place % 64));
+        risen
+    }
+
+    /// The first instruction from this one on at which some rose.
+    fn first_from(&self, place: usize) -> Option<usize> {
+        let mut wanted = u64::MAX << (place % 64);
+        for word in place / 64..self.places.len() {
+            let bits = self.places[word] & wanted;
+            if bits != 0 {
+                return Some(word.saturating_mul(64) | bits.trailing_zeros() as usize);
+            }
+            wanted = u64::MAX;
+        }
+        None
+    }
+
+    /// The same, or else the first of all.
+    pub fn next(&self, place: usize) -> Option<usize> {
+        match self.first_from(place) {
+            Some(next) => Some(next),
+            None => self.first_from(0),
+        }
+    }
+}

@@ -44,7 +44,7 @@ with_keeps s a r v w e h =
 abbrev pub Hands : ℕ → AbsVal → Outcome → Type 0
 Hands r v w = (t : State) × (w ≡ passes t) × IsTrue (below v (value_at t r))
 
-is_not : (b : Bool) → not b ≡ true → b ≡ false
+pub is_not : (b : Bool) → not b ≡ true → b ≡ false
 is_not true e = sym e
 is_not false e = refl
 

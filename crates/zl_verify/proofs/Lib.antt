@@ -3,6 +3,7 @@ pub mod Waking
 pub mod CallEnds
 pub mod Places
 pub mod Walking
+pub mod Behind
 pub mod Blocked
 pub mod Numbering
 pub mod Falling

@@ -1,24 +1,24 @@
 -- States that lie below those of every typing: one register of such a state rises, edges lead on, and a search takes it back.
 use Rattle.zl_verify.proofs.Common.{ANY, AbsVal, AllFine, AllLead, Bool, Cause, Edge, Has, IfOk, IfSome, Image, IsAbove, IsFine, IsState, IsTrue, IsTyping}
 use Rattle.zl_verify.proofs.Common.{KindOf, List, None, Ok, Option, Result, RightsOf, RuleHolds, Some, State, Stretches, Word, [], all_below, ap, arith, at}
-use Rattle.zl_verify.proofs.Common.{both, bounds_of, can_be_named, eqb, false, if◌then◌else◌, inl, inr, is_in_range, is_named_well, length, map, nat_tests}
+use Rattle.zl_verify.proofs.Common.{both, bounds_of, can_be_named, eqb, false, if◌then◌else◌, inl, inr, is_in_range, is_named_well, length, ltb, map, nat_tests, not}
 use Rattle.zl_verify.proofs.Common.{none-some, option_map, raised, refl, replicate, rule, rule_fine, same_Some, slice_get, slice_get-get_or, slice_index_or}
 use Rattle.zl_verify.proofs.Common.{slice_set, start_of, stretch, subst, suc, sym, true, untagged, value_at, with_value, zero, ℕ, ◌++◌, ◌-◌, ◌<◌, ◌∙◌, ◌∷◌, ◌≡◌}
 use Rattle.zl_verify.proofs.Common.{◌≢◌, ◌⊎◌}
 use Rattle.zl_abs.specs.Values.{below, joined}
 use Rattle.zl_abs.specs.Laws.{IsAboveJoin}
 use Rattle.zl_abs.specs.Fine.{Fits}
-use Rattle.zl_abs.specs.States.{raised_at, risen}
+use Rattle.zl_abs.specs.States.{raised_at, refined, risen}
 use Rattle.zl_abs.proofs.Order.{below_refl, joined_least}
 use Rattle.zl_abs.proofs.FineStates.{fine_refined, fine_with, is_plain, joined_fits, plain_suits}
 use Rattle.zl_abs.proofs.Lowering.{untagged_below}
 use Rattle.zl_verify.specs.Going.{Goes, Searching, at_starts}
 use Rattle.zl_verify.specs.Handing.{IsNext}
 use Rattle.zl_verify.specs.Lists.{within}
-use Rattle.zl_verify.specs.Low.{AllLow, AreLow, IsLow, IsLowOne, Reaches, Rises}
+use Rattle.zl_verify.specs.Low.{AllLow, AreLow, IsLow, IsLowOne, Reaches, Rises, is_climb}
 use Rattle.zl_verify.specs.Search.{Table}
 use Rattle.zl_verify.proofs.Ending.{Eases, EasesOr, easing}
-use Rattle.zl_verify.proofs.HandingOn.{all_on, reaches_below, value_below}
+use Rattle.zl_verify.proofs.HandingOn.{all_on, is_not, reaches_below, value_below}
 use Rattle.zl_verify.proofs.Lowers.{typed_at}
 use Rattle.zl_verify.proofs.Places.{equal_or_not, get_put, get_put_other}
 use Rattle.zl_verify.proofs.Rising.{Raises, RaisesOr, leads_still, raising, typed_still}
@@ -159,6 +159,29 @@ risen_low i n r s t v low one h = by (below v (value_at s r)) refl h
     by true b g = subst (IsLow i n) (same_Some s t g) low
     by false b g = rose (joined (value_at s r) v) b refl g
 
+-- a register in which a word other than 0 climbs is named by no tag
+pub climbed_low : (i : Image) (n r : ℕ) (s : State) (v : AbsVal) → IsLow i n s → IsLowOne i n r v → is_climb (value_at s r) v ≡ true
+    → IsLow i n (refined s r v)
+climbed_low i n r s v low one h = record {
+  fine = by (value_at s r) v refl h one.fits;
+  lower = λ y k. above (y n) (low.lower y k) (one.lower y k);
+}
+  where
+    by : (a w : AbsVal) → value_at s r ≡ a → is_climb a w ≡ true → Fits w → IsFine (refined s r w)
+    by (Word m) (Word n) e c f =
+        fine_refined s r (Word n) low.fine refl f
+        (λ x. let z : eqb m 0 ≡ true = rw e at x in let y = (both (not (eqb m 0)) (ltb m n) c).0 in let q : true ≡ false = sym z ∙ is_not (eqb m 0) y in cc)
+    by (Word m) (Has _ _ _) e c f = cc
+    by (Word m) (KindOf _) e c f = cc
+    by (Word m) (RightsOf _) e c f = cc
+    by (Has _ _ _) w e c f = cc
+    by (KindOf _) w e c f = cc
+    by (RightsOf _) w e c f = cc
+
+    above : (o : Option State) → IsAbove o s → Reaches o r v → IsAbove o (refined s r v)
+    above None a b = a
+    above (Some u) a b = set_below s u r v a b
+
 -- what is known at a place of a register every typing has where it is next named
 pub low_ahead : (i : Image) (n p r : ℕ) (s : State) → IsNext i r n p → IsLow i n s → IsLowOne i p r (value_at s r)
 low_ahead i n p r s h low = record {
@@ -208,8 +231,10 @@ rises_low : (i : Image) (states : List (Option State)) (n r : ℕ) (v : AbsVal) 
     → at states n ≡ o → Rises o r v p → AreLow i (slice_set states n p)
 rises_low i states n r v None p h low one e g = rw g (gone_low i states n low)
 rises_low i states n r v (Some s) p h low one e (inl g) = rw g (put_low i states n s h low (low.each n s e))
-rises_low i states n r v (Some s) None h low one e (inr g) = gone_low i states n low
-rises_low i states n r v (Some s) (Some t) h low one e (inr g) = put_low i states n t h low (risen_low i n r s t v (low.each n s e) one g)
+rises_low i states n r v (Some s) None h low one e (inr (inl g)) = gone_low i states n low
+rises_low i states n r v (Some s) (Some t) h low one e (inr (inl g)) = put_low i states n t h low (risen_low i n r s t v (low.each n s e) one g)
+rises_low i states n r v (Some s) p h low one e (inr (inr (c, g))) =
+    rw g (put_low i states n (refined s r v) h low (climbed_low i n r s v (low.each n s e) one c))
 
 pub known_rises : (i : Image) (states : List (Option State)) (n r : ℕ) (v : AbsVal) (o p : Option State) → n < length states → AreLow i states
     → IsLowOne i n r v → o ≡ slice_index_or states n o → Rises o r v p → AreLow i (slice_set states n p)

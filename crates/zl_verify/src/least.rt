@@ -9,6 +9,7 @@ ghost use Rattle.zl_verify.specs.Lists.{at};
 ghost use Rattle.zl_verify.specs.Stretches.{AreStretches, states_of};
 ghost use Rattle.zl_verify.specs.Checks.{IsLeastTyping, IsRefused};
 
+use crate::pace::Pace;
 use crate::refusal::RefusalCause;
 use crate::search::{Fault, Search};
 use crate::seen::Seen;
@@ -18,8 +19,11 @@ use std::alloc::{AllocError, Global};
 use zl_abs::{AbsState, Bounds, Cause};
 use zl_code::Image;
 
-/// How often each instruction is looked at, by and large, before the search goes by what is named.
+/// How often each instruction is looked at, by and large, before the search first goes by what is named.
 const LOOKS: usize = 8;
+
+/// How often it may go by what is named. Each time twice as much is looked at before.
+const ROUNDS: u32 = 24;
 
 /// What a search found: the stretches, and what is known where each begins. What is known at the other
 /// instructions follows from that.
@@ -84,8 +88,8 @@ fn finish(
     Ok(())
 }
 
-/// The search goes on over what one by names leaves. Not where there may be no typing: why, a search
-/// from the start tells.
+/// The search goes on over what one by names leaves, until nothing waits. Not where there may be no
+/// typing: why, a search from the start tells.
 fn finish_lifted(
     alloc: Global,
     search: &mut Search,
@@ -98,8 +102,25 @@ fn finish_lifted(
     ensures goes { result ≡ true → Goes image.now stretches.now search.new }
     ensures over { result ≡ true → length stretches.now.starts ≤ search.new.from }
 {
-    if !lift(alloc, bounds, image, stretches, search) {
-        return false;
+    let mut most = image.len().saturating_mul(LOOKS);
+    for _ in 0..ROUNDS {
+        match begin(search, bounds, image, stretches, most, &mut Seen::NOTHING) {
+            Ok(true) => return true,
+            Ok(false) => {}
+            Err(_) => return false,
+        }
+        match lift(
+            alloc,
+            bounds,
+            image,
+            stretches,
+            search,
+            Pace::among(image.len()),
+        ) {
+            Some(_) => {}
+            None => return false,
+        }
+        most = most.saturating_mul(2);
     }
     match finish(search, bounds, image, stretches, &mut Seen::NOTHING) {
         Ok(()) => true,
@@ -136,10 +157,30 @@ fn finish_soon(
         done ≡ true → length stretches.now.starts ≤ search.new.from) }
     ensures exact { IfErr result (λ fault. IsRefused image.now fault.at fault.cause) }
 {
-    let most = image.len().saturating_mul(LOOKS);
-    match begin(search, bounds, image, stretches, most, seen) {
-        Ok(true) => Ok(true),
-        Ok(false) => Ok(finish_lifted(alloc, search, bounds, image, stretches)),
+    let mut most = image.len().saturating_mul(LOOKS);
+    for _ in 0..ROUNDS {
+        match begin(search, bounds, image, stretches, most, seen) {
+            Ok(true) => return Ok(true),
+            Ok(false) => {}
+            Err(fault) => return Err(fault),
+        }
+        match lift(
+            alloc,
+            bounds,
+            image,
+            stretches,
+            search,
+            Pace::among(image.len()),
+        ) {
+            None => return Ok(false),
+            Some(true) => return Ok(finish_lifted(alloc, search, bounds, image, stretches)),
+            // What waits is looked at on, and in the order in which it would be without this.
+            Some(false) => {}
+        }
+        most = most.saturating_mul(2);
+    }
+    match finish(search, bounds, image, stretches, seen) {
+        Ok(()) => Ok(true),
         Err(fault) => Err(fault),
     }
 }
@@ -257,8 +298,16 @@ fn is_settled_by_names(
     let Ok(mut search) = start(alloc, image, stretches) else {
         return None;
     };
-    if !lift(alloc, bounds, image, stretches, &mut search) {
-        return None;
+    match lift(
+        alloc,
+        bounds,
+        image,
+        stretches,
+        &mut search,
+        Pace::endless(),
+    ) {
+        Some(_) => {}
+        None => return None,
     }
     match begin(
         &mut search,

@@ -8,12 +8,14 @@
 #![tactic(auto)]
 
 mod ahead;
+mod changing;
 mod checked;
 mod edges;
 pub mod laws;
 mod least;
 mod names;
 mod naming;
+mod pace;
 mod peaks;
 mod pending;
 mod refusal;

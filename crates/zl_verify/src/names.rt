@@ -129,8 +129,6 @@ fn rows_of(
 pub(crate) struct Names {
     // A row for each instruction, from the last to the first.
     rows: Vec<[u16; Register::COUNT]>,
-    // The registers that a tag may name.
-    tagged: RegisterSet,
 }
 
 impl Names {
@@ -141,12 +139,7 @@ impl Names {
         let begins = begins_of(alloc, image)?;
         let tagged = tagged_in(image);
         let rows = rows_of(alloc, image, &begins, tagged)?;
-        Ok(Names { rows, tagged })
-    }
-
-    /// The registers that a tag may name.
-    pub fn tagged(&self) -> RegisterSet {
-        self.tagged
+        Ok(Names { rows })
     }
 
     /// Where the register is named from the instruction on.
@@ -156,24 +149,5 @@ impl Names {
         ensures { IsNext image.now register place result }
     {
         usize::from(self.rows[image.len() - 1 - place][usize::from(register.number())])
-    }
-
-    /// The registers that the instruction names.
-    pub fn named_at(&self, image: &Image, place: usize) -> RegisterSet {
-        let Some(row) = self
-            .rows
-            .get(image.len().saturating_sub(place).saturating_sub(1))
-        else {
-            return RegisterSet::NONE;
-        };
-        let mut named = RegisterSet::NONE;
-        for (number, next) in row.iter().enumerate() {
-            if usize::from(*next) == place {
-                if let Some(register) = Register::new(number as u8) {
-                    named = named.with(RegisterSet::of(register));
-                }
-            }
-        }
-        named
     }
 }

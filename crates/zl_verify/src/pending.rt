@@ -8,6 +8,8 @@ pub(crate) struct Pending {
     registers: Vec<RegisterSet>,
     // The instructions at which some did, 64 to a word.
     places: Vec<u64>,
+    // At none below did some.
+    from: usize,
 }
 
 impl Pending {
@@ -15,7 +17,11 @@ impl Pending {
     pub fn none(alloc: Global, size: usize) -> Result<Pending, AllocError> {
         let registers = vec![in alloc; RegisterSet::NONE; size]?;
         let places = vec![in alloc; 0; size / 64 + 1]?;
-        Ok(Pending { registers, places })
+        Ok(Pending {
+            registers,
+            places,
+            from: size,
+        })
     }
 
     /// These rose there too.
@@ -24,6 +30,7 @@ impl Pending {
         if place < self.registers.len() && word < self.places.len() {
             self.registers[place] = self.registers[place].with(risen);
             self.places[word] |= 1 << (place % 64);
+            self.from = self.from.min(place);
         }
     }
 
@@ -39,24 +46,24 @@ impl Pending {
         risen
     }
 
-    /// The first instruction from this one on at which some rose.
-    fn first_from(&self, place: usize) -> Option<usize> {
+    /// The first instruction from this one on, and before the end, at which some rose.
+    pub fn first_in(&self, place: usize, end: usize) -> Option<usize> {
         let mut wanted = u64::MAX << (place % 64);
-        for word in place / 64..self.places.len() {
+        for word in place / 64..self.places.len().min(end / 64 + 1) {
             let bits = self.places[word] & wanted;
             if bits != 0 {
-                return Some(word.saturating_mul(64) | bits.trailing_zeros() as usize);
+                let first = word.saturating_mul(64) | bits.trailing_zeros() as usize;
+                return (first < end).then_some(first);
             }
             wanted = u64::MAX;
         }
         None
     }
 
-    /// The same, or else the first of all.
-    pub fn next(&self, place: usize) -> Option<usize> {
-        match self.first_from(place) {
-            Some(next) => Some(next),
-            None => self.first_from(0),
-        }
+    /// The first of all.
+    pub fn first(&mut self) -> Option<usize> {
+        let first = self.first_in(self.from, self.registers.len())?;
+        self.from = first;
+        Some(first)
     }
 }

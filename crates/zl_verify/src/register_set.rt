@@ -33,6 +33,11 @@ impl RegisterSet {
         self.bits == 0
     }
 
+    /// How many there are.
+    pub fn count(self) -> u32 {
+        self.bits.count_ones()
+    }
+
     /// The first of them.
     pub fn first(self) -> Option<Register> {
         Register::new(self.bits.trailing_zeros() as u8)

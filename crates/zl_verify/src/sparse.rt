@@ -2,26 +2,29 @@
 //! next named. It promises no more than that what it knows lies below the states of every typing: what
 //! it leaves out the search behind it finds.
 
-ghost use Rattle.std.specs.Prelude.{◌≡◌, ◌<◌, ◌++◌, true, length, IfOk};
+ghost use Rattle.std.specs.Prelude.{◌≡◌, ◌<◌, ◌++◌, Some, false, true, length, IfOk, IfSome};
 ghost use Rattle.zl_abs.specs.Bounds.{RoundAlike, bounds_of};
-ghost use Rattle.zl_abs.specs.Changes.{step_in};
+ghost use Rattle.zl_abs.specs.Changes.{changed, step_in};
 ghost use Rattle.zl_verify.specs.Going.{Goes};
 ghost use Rattle.zl_verify.specs.Lists.{at};
 ghost use Rattle.zl_verify.specs.Handing.{AreNames, IsNext};
-ghost use Rattle.zl_verify.specs.Low.{AllLow, AreLow, IsLow, IsLowOne, Rises};
+ghost use Rattle.zl_verify.specs.Low.{AllLow, AreLow, IsLow, IsLowOne, Rises, is_climb};
 
+use crate::changing::{changed_by, value_behind};
 use crate::edges::edges_at;
 use crate::names::Names;
+use crate::pace::{Pace, step_of};
 use crate::pending::Pending;
 use crate::register_set::RegisterSet;
 use crate::search::Search;
 use crate::stretches::Stretches;
+use crate::tagged::named_by;
 use std::alloc::{AllocError, Global};
 use zl_abs::{AbsState, AbsVal, Bounds, Change, Step};
 use zl_code::{Image, Register};
 
-/// How many instructions are done at most. What they leave out is left to the search behind.
-const MOST_STEPS: u32 = 400_000_000;
+/// How many times a stretch is gone through at most. What that leaves out is left to the search behind.
+const MOST_TURNS: u32 = 400_000_000;
 
 /// What is known at each instruction, as far as a way to it was found.
 #[derive(Drop)]
@@ -30,37 +33,25 @@ struct Lifted {
     pending: Pending,
 }
 
-/// The registers that differ at the end of an edge. Where a tag may name one that is written, others
-/// may differ too.
-fn changed_by(change: Change, tagged: RegisterSet) -> RegisterSet {
-    match change {
-        Change::Same => RegisterSet::NONE,
-        Change::Written(register, _) => {
-            if tagged.has(register) {
-                RegisterSet::ALL
-            } else {
-                RegisterSet::of(register)
-            }
-        }
-        Change::Refined(register, _) => RegisterSet::of(register),
-        Change::RefinedBoth(first, _, second, _) => {
-            RegisterSet::of(first).with(RegisterSet::of(second))
-        }
-        Change::Moved(_, _, _) => RegisterSet::ALL,
+/// The registers that go on from the instruction but for those that its edges change: those that rose
+/// there, and those that a call names, as it may change them.
+fn going_on(image: &Image, place: usize, risen: RegisterSet) -> RegisterSet {
+    match image.call_at(place) {
+        Some(call) => risen.with(named_by(&call)),
+        None => risen,
     }
 }
 
-/// The registers that go on from the instruction but for those that its edges change: those that rose
-/// there, and those that a call may change.
-fn going_on(image: &Image, names: &Names, pending: &mut Pending, place: usize) -> RegisterSet {
-    let risen = pending.take(place);
-    if image.call_at(place).is_none() {
-        return risen;
-    }
-    if names.tagged().is_empty() {
-        risen.with(names.named_at(image, place))
-    } else {
-        RegisterSet::ALL
+/// Whether it is a higher word than one that isn't 0.
+fn is_climb(value: AbsVal, risen: &AbsVal) -> bool
+    ensures { result ≡ is_climb value risen.now }
+{
+    match value {
+        AbsVal::Word(most) => match risen {
+            AbsVal::Word(next) => most != 0 && most < *next,
+            _ => false,
+        },
+        _ => false,
     }
 }
 
@@ -71,6 +62,11 @@ fn raise_known(known: &mut Option<AbsState>, register: Register, value: &AbsVal)
     let Some(state) = known else {
         return false;
     };
+    if is_climb(state.get(register), value) {
+        // No tag names the register, so that none is looked for.
+        state.change(Change::Refined(register, *value));
+        return true;
+    }
     matches!(state.raise_at(register, value), Some(true))
 }
 
@@ -141,18 +137,19 @@ impl Lifted {
         &mut self,
         image: &Image,
         names: &Names,
-        target: usize,
+        edge: &Step,
         state: &AbsState,
         register: Register,
     )
         requires low { AreLow image.now self.old.states.items }
         requires names { AreNames image.now names.now.rows.items }
-        requires inside { target < length image.now.code }
-        requires known { IsLow image.now target state.now }
+        requires inside { edge.now.target < length image.now.code }
+        requires known { IsLow image.now edge.now.target (changed state.now edge.now.change) }
         ensures { AreLow image.now self.new.states.items }
     {
-        let place = self.place_of(image, names, target, register);
-        self.raise(image, place, register, state.get(register));
+        let value = value_behind(state, &edge.change, register);
+        let place = self.place_of(image, names, edge.target, register);
+        self.raise(image, place, register, value);
     }
 
     /// These registers at the end of an edge.
@@ -160,14 +157,14 @@ impl Lifted {
         &mut self,
         image: &Image,
         names: &Names,
-        target: usize,
+        edge: &Step,
         state: &AbsState,
         which: RegisterSet,
     )
         requires low { AreLow image.now self.old.states.items }
         requires names { AreNames image.now names.now.rows.items }
-        requires inside { target < length image.now.code }
-        requires known { IsLow image.now target state.now }
+        requires inside { edge.now.target < length image.now.code }
+        requires known { IsLow image.now edge.now.target (changed state.now edge.now.change) }
         ensures { AreLow image.now self.new.states.items }
     {
         let mut left = which;
@@ -175,61 +172,25 @@ impl Lifted {
             let Some(register) = left.first() else {
                 return;
             };
-            self.carry(image, names, target, state, register);
+            self.carry(image, names, edge, state, register);
             left = left.without(register);
         }
     }
 
-    /// The state comes to the end of an edge: all of it where nothing is known there yet, else these
-    /// registers.
-    fn arrive(
-        &mut self,
-        image: &Image,
-        names: &Names,
-        target: usize,
-        state: &AbsState,
-        which: RegisterSet,
-    )
+    /// All of the state at the end of an edge is known there now.
+    fn put_behind(&mut self, image: &Image, edge: &Step, state: &AbsState)
         requires low { AreLow image.now self.old.states.items }
-        requires names { AreNames image.now names.now.rows.items }
-        requires known { IsLow image.now target state.now }
+        requires known { IsLow image.now edge.now.target (changed state.now edge.now.change) }
         ensures { AreLow image.now self.new.states.items }
     {
-        if target >= image.len() {
-            return;
-        }
-        if !self.is_known(target) {
-            self.put(image, target, state, RegisterSet::ALL);
-            return;
-        }
-        self.carry_all(image, names, target, state, which);
-    }
-
-    /// The edge is followed, if there is one, with these registers and those that it changes. The state
-    /// becomes that at its end.
-    fn follow(
-        &mut self,
-        image: &Image,
-        names: &Names,
-        edge: &Option<Step>,
-        state: &mut AbsState,
-        which: RegisterSet,
-    )
-        requires low { AreLow image.now self.old.states.items }
-        requires names { AreNames image.now names.now.rows.items }
-        requires known { AllLow image.now (step_in state.old edge.now) }
-        ensures { AreLow image.now self.new.states.items }
-    {
-        let Some(edge) = edge else {
-            return;
-        };
+        let mut state = *state;
         state.change(edge.change);
-        let which = which.with(changed_by(edge.change, names.tagged()));
-        self.arrive(image, names, edge.target, state, which);
+        self.put(image, edge.target, &state, RegisterSet::ALL);
     }
 
-    /// The same before another edge of the instruction: the state stays.
-    fn jump(
+    /// The edge is followed, if there is one: all of the state comes to its end where nothing is known
+    /// there yet, else these registers and those that the edge changes.
+    fn follow(
         &mut self,
         image: &Image,
         names: &Names,
@@ -242,50 +203,106 @@ impl Lifted {
         requires known { AllLow image.now (step_in state.now edge.now) }
         ensures { AreLow image.now self.new.states.items }
     {
-        if edge.is_none() {
+        let Some(edge) = edge else {
+            return;
+        };
+        if edge.target >= image.len() {
             return;
         }
-        let mut state = *state;
-        self.follow(image, names, edge, &mut state, which);
+        if !self.is_known(edge.target) {
+            self.put_behind(image, edge, state);
+            return;
+        }
+        let which = which.with(changed_by(edge.change));
+        self.carry_all(image, names, edge, state, which);
     }
 
-    /// An instruction is done again, at which registers rose. Not where its rule doesn't hold.
-    fn step(&mut self, bounds: &Bounds, image: &Image, names: &Names, place: usize) -> bool
+    /// An instruction is done again, and these registers go on from it. Not where its rule doesn't hold.
+    fn step(
+        &mut self,
+        bounds: &Bounds,
+        image: &Image,
+        names: &Names,
+        place: usize,
+        which: RegisterSet,
+    ) -> bool
         requires alike { RoundAlike bounds.now (bounds_of image.now.code) }
         requires low { AreLow image.now self.old.states.items }
         requires names { AreNames image.now names.now.rows.items }
         ensures { AreLow image.now self.new.states.items }
     {
-        let which = going_on(image, names, &mut self.pending, place);
         let Some(mut state) = self.known_at(place) else {
             return true;
         };
         let Ok(edges) = edges_at(bounds, image, place, &mut state) else {
             return false;
         };
-        self.jump(image, names, &edges.jump, &state, which);
-        self.follow(image, names, &edges.next, &mut state, which);
+        self.follow(image, names, &edges.jump, &state, which);
+        self.follow(image, names, &edges.next, &state, which);
         true
     }
 
-    /// As long as registers rise. Not where the rule of an instruction doesn't hold.
-    fn rise(&mut self, bounds: &Bounds, image: &Image, names: &Names) -> bool
+    /// The instructions of a stretch are done again at which registers rose. What that takes; nothing
+    /// where the rule of one doesn't hold.
+    fn turn(
+        &mut self,
+        bounds: &Bounds,
+        image: &Image,
+        names: &Names,
+        first: usize,
+        end: usize,
+    ) -> Option<usize>
         requires alike { RoundAlike bounds.now (bounds_of image.now.code) }
         requires low { AreLow image.now self.old.states.items }
         requires names { AreNames image.now names.now.rows.items }
         ensures { AreLow image.now self.new.states.items }
     {
-        let mut from = 0;
-        for _ in 0..MOST_STEPS {
-            let Some(place) = self.pending.next(from) else {
-                return true;
+        let mut from = first;
+        let mut taken = 0_usize;
+        for _ in first..end {
+            let Some(place) = self.pending.first_in(from, end) else {
+                return Some(taken);
             };
-            if !self.step(bounds, image, names, place) {
-                return false;
+            let which = going_on(image, place, self.pending.take(place));
+            if !self.step(bounds, image, names, place, which) {
+                return None;
             }
+            taken = taken.saturating_add(step_of(which.count()));
             from = place.saturating_add(1);
         }
-        true
+        Some(taken)
+    }
+
+    /// As long as registers rise, and that gains. Whether what is known now is worth being kept; nothing
+    /// where the rule of an instruction doesn't hold.
+    fn rise(
+        &mut self,
+        bounds: &Bounds,
+        image: &Image,
+        stretches: &Stretches,
+        names: &Names,
+        pace: Pace,
+    ) -> Option<bool>
+        requires alike { RoundAlike bounds.now (bounds_of image.now.code) }
+        requires low { AreLow image.now self.old.states.items }
+        requires names { AreNames image.now names.now.rows.items }
+        ensures { AreLow image.now self.new.states.items }
+    {
+        let mut pace = pace;
+        for _ in 0..MOST_TURNS {
+            let Some(first) = self.pending.first() else {
+                return Some(true);
+            };
+            // As in the other search, the first stretch of those that wait is gone through.
+            let end = stretches.end(image, first);
+            let Some(taken) = self.turn(bounds, image, names, first, end) else {
+                return None;
+            };
+            if !pace.goes_on(end.saturating_sub(first), taken) {
+                return Some(pace.is_worth());
+            }
+        }
+        Some(pace.is_worth())
     }
 
     /// What a search knows where the stretch begins.
@@ -346,28 +363,32 @@ impl Lifted {
     }
 }
 
-/// What the search knows rises, and stays below the states of every typing. Not where the rule of an
-/// instruction doesn't hold, or two states have no join. Where memory is refused nothing rises.
+/// What the search knows rises, and stays below the states of every typing. Whether it did; nothing
+/// where the rule of an instruction doesn't hold, or two states have no join. Where memory is refused,
+/// or not enough would be gained, the search stays as it is.
 pub(crate) fn lift(
     alloc: Global,
     bounds: &Bounds,
     image: &Image,
     stretches: &Stretches,
     search: &mut Search,
-) -> bool
+    pace: Pace,
+) -> Option<bool>
     requires alike { RoundAlike bounds.now (bounds_of image.now.code) }
     requires goes { Goes image.now stretches.now search.old }
-    ensures { result ≡ true → Goes image.now stretches.now search.new }
+    ensures goes { IfSome result (λ rose. Goes image.now stretches.now search.new) }
+    ensures same { result ≡ Some false → search.new ≡ search.old }
 {
     let Ok(names) = Names::of(alloc, image) else {
-        return true;
+        return Some(false);
     };
     let Ok(mut lifted) = Lifted::none(alloc, image) else {
-        return true;
+        return Some(false);
     };
     lifted.take_up(image, stretches, search);
-    if !lifted.rise(bounds, image, &names) {
-        return false;
+    match lifted.rise(bounds, image, stretches, &names, pace) {
+        Some(true) => lifted.hand_back(image, stretches, search).then_some(true),
+        Some(false) => Some(false),
+        None => None,
     }
-    lifted.hand_back(image, stretches, search)
 }

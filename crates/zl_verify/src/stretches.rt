@@ -66,6 +66,15 @@ impl Stretches {
             None => image.len(),
         }
     }
+
+    /// Where the stretch ends that begins at the instruction; right behind it where none does. No clause
+    /// says so: a search goes by it.
+    pub fn end(&self, image: &Image, place: usize) -> usize {
+        match self.number(place) {
+            Some(stretch) => self.start(image, stretch.saturating_add(1)),
+            None => place.saturating_add(1),
+        }
+    }
 }
 
 /// At which instructions a stretch begins.

@@ -1,5 +1,6 @@
 //! The registers that a tag may name in a program: those of handles of which a call tells kind and
-//! rights, and those to which such a handle may move. No clause says so: a search goes by it.
+//! rights, and those to which such a handle may move; and those that a call names. No clause says so: a
+//! search goes by it.
 
 use crate::register_set::RegisterSet;
 use zl_code::{CallInstr, Ending, Gives, Image, LocalInstr, Register};
@@ -13,6 +14,53 @@ fn heads_of(first: Register, triples: u32) -> RegisterSet {
         }
     }
     heads
+}
+
+/// Those of so many triples.
+fn triples_of(first: Register, triples: u32) -> RegisterSet {
+    let mut all = RegisterSet::NONE;
+    for number in first.number()..Register::COUNT as u8 {
+        let behind = u32::from(number - first.number());
+        if let Some(register) = Register::new(number) {
+            if behind / 3 < triples {
+                all = all.with(RegisterSet::of(register));
+            }
+        }
+    }
+    all
+}
+
+/// Those of a list.
+fn listed(places: &[u8]) -> RegisterSet {
+    let mut all = RegisterSet::NONE;
+    for place in places {
+        if let Some(register) = Register::new(*place) {
+            all = all.with(RegisterSet::of(register));
+        }
+    }
+    all
+}
+
+/// Those that the call names behind the registers of its row.
+fn named_behind(call: &CallInstr) -> RegisterSet {
+    match call.name.row().columns.ending {
+        Ending::Handles => listed(&call.last),
+        Ending::Room => triples_of(call.registers[6], call.number()),
+        _ => RegisterSet::NONE,
+    }
+}
+
+/// Those that the call names.
+pub(crate) fn named_by(call: &CallInstr) -> RegisterSet {
+    let mut named = named_behind(call);
+    for register in call
+        .registers
+        .iter()
+        .take(call.name.row().columns.fields.len())
+    {
+        named = named.with(RegisterSet::of(*register));
+    }
+    named
 }
 
 /// Those of which the call tells kind and rights.

@@ -1,0 +1,5 @@
+use Rattle.zl_verify.specs.Going.{Goes}
+use Rattle.zl_verify.proofs.least.finish_soon.Given as goal
+
+abbrev pub invariant-loop : goal.invariant-loop
+invariant-loop l = Goes l.image l.stretches l.search

@@ -96,6 +96,7 @@ impl AbsVal {
     }
 
     /// Whether each number that this describes is described by the other too.
+    #[inline(always)]
     #[tactic(auto, unfolding(crate::specs::Values::below))]
     pub fn is_below(self, other: AbsVal) -> bool
         ensures { result ≡ below self other }

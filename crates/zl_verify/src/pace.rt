@@ -2,7 +2,7 @@
 const LOOK: usize = 8;
 
 /// What it takes to do an instruction again in a search by what is named.
-const STEP: usize = 12;
+const STEP: usize = 16;
 
 /// What it takes to carry a register on from there.
 const REGISTER: usize = 2;

@@ -4,6 +4,7 @@ pub mod KnownOutput
 pub mod Numbered
 pub mod OneHistory
 pub mod States
+pub mod Pages
 pub mod Pieces
 pub mod ReadOn
 pub mod Replayed

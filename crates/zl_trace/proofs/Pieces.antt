@@ -3,6 +3,7 @@ use Rattle.zl_trace.proofs.Common.{Appends, AppendsBeginning, Gathers, List, Opt
 use Rattle.zl_trace.proofs.Common.{item_line, states_of, subst, sym, trace_text, ℕ, ◌++◌, ◌∙◌, ◌≡◌}
 use Rattle.zl_sched.specs.declared.system.End.{End}
 use Rattle.zl_trace.proofs.KnownOutput.{gathers_both, begun_after}
+use Rattle.zl_trace.proofs.Pages.{begins_longer}
 use Rattle.zl_trace.proofs.States.{line_of}
 
 -- ---- pieces
@@ -18,14 +19,6 @@ gathered_begins a e b d more rest g = record {
   rest = d ++ rest;
   appended = g.appended;
   beginning = sym (append_assoc g.written d rest) ∙ ap (λ (x : List ℕ). x ++ rest) (sym g.gathered);
-}
-
-begins_longer : (a e : Option (List ℕ)) (bytes more : List ℕ) → AppendsBeginning a e bytes → AppendsBeginning a e (bytes ++ more)
-begins_longer a e bytes more b = record {
-  written = b.written;
-  rest = b.rest ++ more;
-  appended = b.appended;
-  beginning = sym (append_assoc b.written b.rest more) ∙ ap (λ (x : List ℕ). x ++ more) b.beginning;
 }
 
 -- ---- the whole text

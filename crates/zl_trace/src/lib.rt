@@ -18,7 +18,9 @@ mod item_words;
 pub mod laws;
 mod lines;
 mod output;
+mod page;
 mod reading;
+mod recent;
 mod replaying;
 mod writing;
 

@@ -14,6 +14,9 @@ use zl_sched::{End, System};
 /// How many processes of many are told of.
 const SHOWN: usize = 4;
 
+/// The code of a process that is stuck. One that ends itself may give it, too.
+const STUCK: i32 = -1028;
+
 const NO_STATEMENTS: &str = "zlab: the input has no statements\n";
 
 /// Adds a line where the trace is full, where there are no turns, or else where turns are of nobody; one
@@ -59,14 +62,31 @@ pub fn explain_threads(hints: &mut String, alloc: Global, system: &System, end: 
 /// Adds a line for each process that is stuck, and one where nobody can go on.
 fn explain_processes(hints: &mut String, alloc: Global, system: &System) {
     let world = system.world();
-    for item in system.items() {
-        if let TraceItem::Stuck { pid } = item {
-            explain_process(hints, alloc, world, *pid);
+    let items = system.items();
+    // Mostly processes are few and items many, and nobody is stuck.
+    if items.len() < world.process_count() || has_stuck(world) {
+        for item in items {
+            if let TraceItem::Stuck { pid } = item {
+                explain_process(hints, alloc, world, *pid);
+            }
         }
     }
     if system.idle() && push_blocked(hints, world).is_err() {
         hints.clear();
     }
+}
+
+/// Whether a process ended as one does that is stuck.
+fn has_stuck(world: &World) -> bool {
+    for n in 0..world.process_count() {
+        let Some(pid) = world.process_at(n) else {
+            continue;
+        };
+        if matches!(world.state_of(pid), ProcState::Ended(STUCK)) {
+            return true;
+        }
+    }
+    false
 }
 
 /// Adds that the trace has no room for what a turn on threads may bring.

@@ -26,7 +26,7 @@ pub enum RunEnd {
     Mixed,
 }
 
-/// The most local instructions of a burst.
+/// The most local instructions of a burst of `run`.
 const BURST: u32 = 256;
 
 /// Runs the system on so many workers, the caller's thread among them; 0 count as 1.
@@ -50,9 +50,26 @@ pub fn run<R: Threads + Wait + Sync, G: Gate>(
     ensures end { EndsRun (opening_of system) result.1 result.0 }
     ensures safe { AreSafe result.0 }
 {
+    run_in_bursts(rt, system, workers, gate, BURST)
+}
+
+/// Runs the system as `run` does, with so many local instructions in a burst at most; 0 count as 1.
+///
+/// A worker that has a process does them without asking whether it still lives, so what is done in vain
+/// of one that is killed meanwhile is that much. Source: own profile.
+pub fn run_in_bursts<R: Threads + Wait + Sync, G: Gate>(
+    rt: &R,
+    system: System,
+    workers: u32,
+    gate: &G,
+    most: u32,
+) -> (System, RunEnd)
+    ensures end { EndsRun (opening_of system) result.1 result.0 }
+    ensures safe { AreSafe result.0 }
+{
     let (after, end) = match system.opening() {
         Ok(opening) => {
-            let after = run_all(rt, system, workers, gate);
+            let after = run_all(rt, system, workers, gate, most);
             let end = end_of(&opening, &after);
             (after, end)
         }
@@ -70,16 +87,17 @@ fn run_all<R: Threads + Wait + Sync, G: Gate>(
     system: System,
     workers: u32,
     gate: &G,
+    most: u32,
 ) -> System {
     let desk = Desk::new(system);
     let shared = &desk;
     thread::scope(thread::scope_env(), rt, |scope| {
         for _ in 1..workers {
-            if scope.spawn(move || work(rt, shared, gate, BURST)).is_err() {
+            if scope.spawn(move || work(rt, shared, gate, most)).is_err() {
                 break;
             }
         }
-        work(rt, shared, gate, BURST);
+        work(rt, shared, gate, most);
     });
     desk.kernel.into_inner()
 }

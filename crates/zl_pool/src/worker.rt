@@ -78,11 +78,12 @@ fn next_turn<R: Wait, K: Kernel>(rt: &R, desk: &Desk<K>) -> Option<Turn> {
 }
 
 /// Takes turns, lets the gate run them for so many local instructions at most while the lock is free, and
-/// hands them in, until the kernel is idle, its trace is full or memory is refused.
+/// hands them in, until the kernel is idle, its trace is full or memory is refused; 0 count as 1.
 ///
 /// While nothing is ready, but something is out, it waits until something was handed in; so it waits for
 /// ever for what nobody hands in. Source: own profile.
 pub fn work<R: Wait, K: Kernel, G: Gate>(rt: &R, desk: &Desk<K>, gate: &G, most: u32) {
+    let most = most.max(1);
     for _ in rt.forever() {
         let Some(turn) = next_turn(rt, desk) else {
             return;

@@ -39,6 +39,13 @@ close r2, r3
 process_exit r3
 ";
 
+/// Goes round for ever by two local instructions.
+pub const ROUNDS: &str = ".raw
+again:
+addi r2, r2, 1
+jmp again
+";
+
 /// Three calls; by the third it exits.
 pub const CALLS: &str = ".raw
 close r2, r3

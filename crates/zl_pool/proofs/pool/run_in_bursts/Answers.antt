@@ -3,8 +3,8 @@ use Rattle.std.proofs.lemmas.List.{append-nil}
 use Rattle.zl_sched.specs.Opening.{GoesOn, opening_of}
 use Rattle.zl_sched.specs.System.{System}
 use Rattle.zl_pool.specs.Pool.{EndsRun}
-use Rattle.zl_pool.proofs.pool.run.Goals.{in-Ok, in-Err}
-use Rattle.zl_pool.proofs.pool.run.Goals as goal
+use Rattle.zl_pool.proofs.pool.run_in_bursts.Goals.{in-Ok, in-Err}
+use Rattle.zl_pool.proofs.pool.run_in_bursts.Goals as goal
 
 -- a system goes on from where it is
 from_itself : (s : System) → GoesOn (opening_of s) s

@@ -1,9 +1,9 @@
 -- What clap finds in the words that it takes for the program's commands.
 use Rattle.zl_command.proofs.Common.{AnswersError, App, Bool, Err, ErrorKind, GivesText, HasNumber, HasValue, HasValues, IfErr, IfOk, IfSome, IfTask, IfText}
-use Rattle.zl_command.proofs.Common.{IsShown, List, MayAskForHelp, None, Ok, Option, Result, Shape, Some, Text, [], ap, built, bytes_eq, codes, commands, cond}
-use Rattle.zl_command.proofs.Common.{entered, false, fault_of, filled, inl, inr, is_simple_and_free, is_some, names_of, needed, not, numbered, option_map}
-use Rattle.zl_command.proofs.Common.{option_map_or, refl, rows_at, slice_get, subcommand_of, subst, sym, true, true≢false, unwrap_or, with_index, ℕ, ◌&&◌, ◌||◌}
-use Rattle.zl_command.proofs.Common.{◌∙◌, ◌∷◌, ◌≡◌, ◌≢◌, ◌⊎◌}
+use Rattle.zl_command.proofs.Common.{IsShown, List, MayAskForHelp, MayHaveNumber, None, Ok, Option, Result, Shape, Some, Text, [], ap, built, bytes_eq, codes}
+use Rattle.zl_command.proofs.Common.{commands, cond, entered, false, fault_of, filled, inl, inr, is_simple_and_free, is_some, names_of, needed, not, numbered}
+use Rattle.zl_command.proofs.Common.{optional, option_map, option_map_or, refl, rows_at, slice_get, subcommand_of, subst, sym, true, true≢false, unwrap_or}
+use Rattle.zl_command.proofs.Common.{with_index, ℕ, ◌&&◌, ◌||◌, ◌∙◌, ◌∷◌, ◌≡◌, ◌≢◌, ◌⊎◌}
 use Rattle.std.proofs.lemmas.Slice.Eq.{bytes_eq-Decides}
 use Rattle.clap.specs.Walk.{Held, Row, Rule, nothing_held, rows_after, stop_after, used}
 use Rattle.clap.specs.Kinds.{IsAmong, Kinds, check_kinds}
@@ -15,7 +15,8 @@ use Rattle.zl_command.specs.declared.command.WordFault.{WordFault}
 use Rattle.zl_command.specs.declared.command.WordFault.TheVariants.{NoMemory, Usage}
 use Rattle.clap.specs.Faults.{check_fault, entered_fault, level_fault, other_fault}
 use Rattle.zl_command.proofs.WalkKeeps.{Each, KeepsRows, level_fits}
-use Rattle.zl_command.proofs.ValueRows.{IsFilled, IsNumberRow, given_first, given_number, needed_keeps, number_keeps, option_keeps, other_keeps}
+use Rattle.zl_command.proofs.ValueRows.{IsFilled, IsNumberRow, given_first, given_number, may_have_number, needed_keeps, number_keeps, option_keeps}
+use Rattle.zl_command.proofs.ValueRows.{other_keeps}
 
 -- ---- the subcommand's level
 
@@ -70,6 +71,9 @@ workers_rule = with_index 2 (filled (numbered (codes "workers") 1 64))
 abbrev limit_rule : Rule
 limit_rule = with_index 2 (filled (numbered (codes "limit") 0 1000000))
 
+abbrev burst_rule : Rule
+burst_rule = with_index 2 (filled (optional (numbered (codes "burst") 1 1000000)))
+
 -- each argument of `run` keeps the fact of rows
 abbrev RunKeeps : (Row → Type 0) → Type 0
 RunKeeps R = Each (KeepsRows run_shape.rules run_shape.args_override_self R) run_shape.rules
@@ -78,18 +82,20 @@ run_filled : RunKeeps IsFilled
 run_filled =
     let rules = run_shape.rules in
     let again = run_shape.args_override_self in
-    let workers = option_keeps rules again (codes "workers") 1 64 2 in
-    let limit = option_keeps rules again (codes "limit") 0 1000000 2 in
-    (needed_keeps rules again (codes "SCENARIO") 1, (workers, (limit, ((λ values rows e filled_rows. filled_rows), tt))))
+    let workers = option_keeps rules again (codes "workers") 1 64 2 true in
+    let limit = option_keeps rules again (codes "limit") 0 1000000 2 true in
+    let burst = option_keeps rules again (codes "burst") 1 1000000 2 false in
+    (needed_keeps rules again (codes "SCENARIO") 1, (workers, (limit, (burst, ((λ values rows e filled_rows. filled_rows), tt)))))
 
 run_workers : RunKeeps (IsNumberRow (codes "workers") 1 64)
 run_workers =
     let rules = run_shape.rules in
     let again = run_shape.args_override_self in
     let scenario = other_keeps rules again (codes "workers") 1 64 scenario_rule refl refl refl in
-    let workers = number_keeps rules again (codes "workers") 1 64 2 in
+    let workers = number_keeps rules again (codes "workers") 1 64 2 true in
     let limit = other_keeps rules again (codes "workers") 1 64 limit_rule refl refl refl in
-    (scenario, (workers, (limit, ((λ values rows e each. each), tt))))
+    let burst = other_keeps rules again (codes "workers") 1 64 burst_rule refl refl refl in
+    (scenario, (workers, (limit, (burst, ((λ values rows e each. each), tt)))))
 
 run_limit : RunKeeps (IsNumberRow (codes "limit") 0 1000000)
 run_limit =
@@ -97,8 +103,19 @@ run_limit =
     let again = run_shape.args_override_self in
     let scenario = other_keeps rules again (codes "limit") 0 1000000 scenario_rule refl refl refl in
     let workers = other_keeps rules again (codes "limit") 0 1000000 workers_rule refl refl refl in
-    let limit = number_keeps rules again (codes "limit") 0 1000000 2 in
-    (scenario, (workers, (limit, ((λ values rows e each. each), tt))))
+    let limit = number_keeps rules again (codes "limit") 0 1000000 2 true in
+    let burst = other_keeps rules again (codes "limit") 0 1000000 burst_rule refl refl refl in
+    (scenario, (workers, (limit, (burst, ((λ values rows e each. each), tt)))))
+
+run_burst : RunKeeps (IsNumberRow (codes "burst") 1 1000000)
+run_burst =
+    let rules = run_shape.rules in
+    let again = run_shape.args_override_self in
+    let scenario = other_keeps rules again (codes "burst") 1 1000000 scenario_rule refl refl refl in
+    let workers = other_keeps rules again (codes "burst") 1 1000000 workers_rule refl refl refl in
+    let limit = other_keeps rules again (codes "burst") 1 1000000 limit_rule refl refl refl in
+    let burst = number_keeps rules again (codes "burst") 1 1000000 2 false in
+    (scenario, (workers, (limit, (burst, ((λ values rows e each. each), tt)))))
 
 both_given : (a b : Bool) → check_kinds false false (not a || (not b || false)) ≡ [] → (a ≡ true) × (b ≡ true)
 both_given true true e = (refl, refl)
@@ -143,11 +160,12 @@ replay_values words e =
 run_fits : (R : Row → Type 0) → RunKeeps R → (words : List Text) → level_fault run_shape [] nothing_held words false [] ≡ []
     → Each R (rows_after run_shape.rules [] words) × (check_fault run_shape (rows_after run_shape.rules [] words) false ≡ [])
 run_fits R each words e =
-    let end = level_fits run_shape [] R each (λ _. Unit {0}) (λ name word h none. tt) words false [] (refl, (refl, (refl, (refl, tt)))) e in
+    let end = level_fits run_shape [] R each (λ _. Unit {0}) (λ name word h none. tt) words false [] (refl, (refl, (refl, (refl, (refl, tt))))) e in
     (end.0, end.3)
 
 run_values : (words : List Text) → level_fault run_shape [] nothing_held words false [] ≡ [] → HasValue (rows_after run_shape.rules [] words) (codes "SCENARIO")
     × HasNumber (rows_after run_shape.rules [] words) (codes "workers") 1 64 × HasNumber (rows_after run_shape.rules [] words) (codes "limit") 0 1000000
+    × MayHaveNumber (rows_after run_shape.rules [] words) (codes "burst") 1 1000000
 run_values words e =
     let filled_rows = run_fits IsFilled run_filled words e in
     let given = three_given _ _ _ filled_rows.1 in
@@ -155,7 +173,8 @@ run_values words e =
     let limit = run_fits (IsNumberRow (codes "limit") 0 1000000) run_limit words e in
     let workers_is = given_number (codes "workers") 1 64 _ workers.0 given.1 in
     let limit_is = given_number (codes "limit") 0 1000000 _ limit.0 given.2 in
-    (given_first (codes "SCENARIO") _ filled_rows.0 given.0, workers_is, limit_is)
+    let burst = run_fits (IsNumberRow (codes "burst") 1 1000000) run_burst words e in
+    (given_first (codes "SCENARIO") _ filled_rows.0 given.0, workers_is, limit_is, may_have_number (codes "burst") 1 1000000 _ burst.0)
 
 -- ---- the program's level
 
@@ -218,7 +237,7 @@ entered_values (Some p) named e =
         inr (inr (inr (inl (refl, values.0, values.1))))
     go false false false false true is_help none e =
         let values = run_values p.1 e in
-        inr (inr (inr (inr (refl, values.0, values.1, values.2))))
+        inr (inr (inr (inr (refl, values.0, values.1, values.2, values.3))))
     go false false false false false true none e = absurd (true≢false none)
     go false false false false false false none e = tt
 

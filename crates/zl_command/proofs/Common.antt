@@ -10,5 +10,6 @@ pub use Rattle.std.specs.Prelude.{Bool, Err, IfErr, IfOk, IfSome, IsSome, List, 
 pub use Rattle.std.specs.Prelude.{is_some, length, map, not, option_and_then, slice_get, suc, true, unwrap_or, zero, ℕ, ◌&&◌, ◌++◌, ◌||◌, ◌∷◌, ◌≡◌, ◌≢◌, ◌⊎◌}
 pub use Rattle.std.specs.Str.{bytes_eq}
 pub use Rattle.std.specs.Str.Parse.{ExplainsUnsignedError, HasUnsignedDigitsIfOk, ParsesUnsigned}
-pub use Rattle.zl_command.specs.Words.{AnswersError, GivesText, HasNumber, HasValue, HasValues, IfTask, IfText, IsShown, MayAskForHelp, assembling, checking}
-pub use Rattle.zl_command.specs.Words.{commands, needed, number, number_of, numbered, program, replaying, running, stepping}
+pub use Rattle.zl_command.specs.Words.{AnswersError, AsksFor, GivesText, HasNumber, HasValue, HasValues, IfTask, IfText, IsShown, MayAskForHelp}
+pub use Rattle.zl_command.specs.Words.{MayHaveNumber, assembling, checking, commands, needed, number, number_of, numbered, optional, program, replaying}
+pub use Rattle.zl_command.specs.Words.{running, stepping}

@@ -1,6 +1,6 @@
 -- Command lines, as clap's definitions read them.
 use Rattle.zl_command.proofs.Common.{List, None, Option, Some, Text, [], codes, commands, fault_of, first_of, is_simple_and_free, number_of, option_map, refl}
-use Rattle.zl_command.proofs.Common.{subcommand_of, takes, true, ℕ, ◌∷◌, ◌≡◌}
+use Rattle.zl_command.proofs.Common.{subcommand_of, takes, true, ℕ, ◌++◌, ◌∷◌, ◌≡◌}
 use Rattle.clap.specs.declared.error.kind.ErrorKind.TheVariants as kind
 use Rattle.clap.proofs.OnLiterals.{clap_on_literals}
 
@@ -16,16 +16,27 @@ turns words = option_map (λ found. (found.0, first_of (codes "SCENARIO") found.
 abbrev history : List Text → Option (Text × Option Text × Option Text)
 history words = option_map (λ found. (found.0, first_of (codes "SCENARIO") found.1, first_of (codes "TRACE") found.1)) (subcommand_of commands words)
 
-abbrev threads : List Text → Option (Text × Option Text × Option ℕ × Option ℕ)
-threads words = option_map (λ found. (found.0, first_of (codes "SCENARIO") found.1, number_of (codes "workers") found.1, number_of (codes "limit") found.1))
-    (subcommand_of commands words)
+abbrev threads : List Text → Option (Text × Option Text × Option ℕ × Option ℕ × Option ℕ)
+threads words = option_map (λ found. (
+  found.0,
+  first_of (codes "SCENARIO") found.1,
+  number_of (codes "workers") found.1,
+  number_of (codes "limit") found.1,
+  number_of (codes "burst") found.1,
+)) (subcommand_of commands words)
 
 abbrev with_both : Text → Text → List Text
 with_both workers limit = codes "run" ∷ codes "a" ∷ codes "--workers" ∷ workers ∷ codes "--limit" ∷ limit ∷ []
 
--- the words are taken, for a run of the scenario `a` on so many threads up to this limit
+abbrev with_all : Text → List Text
+with_all burst = with_both (codes "4") (codes "1000") ++ (codes "--burst" ∷ burst ∷ [])
+
+-- the words are taken, for a run of the scenario `a` on so many threads up to this limit, with bursts of this length if it is said
+abbrev RunsBy : List Text → ℕ → ℕ → Option ℕ → Type 0
+RunsBy words workers limit burst = (takes commands words ≡ true) × (threads words ≡ Some (codes "run", Some (codes "a"), Some workers, Some limit, burst))
+
 abbrev Runs : List Text → ℕ → ℕ → Type 0
-Runs words workers limit = (takes commands words ≡ true) × (threads words ≡ Some (codes "run", Some (codes "a"), Some workers, Some limit))
+Runs words workers limit = RunsBy words workers limit None
 
 clap_defines_them : is_simple_and_free commands ≡ true
 clap_defines_them = refl
@@ -166,3 +177,35 @@ two_scenarios : fault_of commands (codes "run" ∷ codes "a" ∷ codes "b" ∷ c
     ≡ kind.UnknownArgument ∷ []
 unfolding clap_on_literals
 two_scenarios = refl
+
+in_bursts : RunsBy (with_all (codes "4096")) 4 1000 (Some 4096)
+unfolding clap_on_literals
+in_bursts = (refl, refl)
+
+bursts_behind_an_equals_sign : RunsBy (codes "run" ∷ codes "--burst=7" ∷ codes "a" ∷ codes "--limit=1000" ∷ codes "--workers=4" ∷ []) 4 1000 (Some 7)
+unfolding clap_on_literals
+bursts_behind_an_equals_sign = (refl, refl)
+
+the_shortest_bursts : RunsBy (with_all (codes "1")) 4 1000 (Some 1)
+unfolding clap_on_literals
+the_shortest_bursts = (refl, refl)
+
+the_longest_bursts : RunsBy (with_all (codes "1000000")) 4 1000 (Some 1000000)
+unfolding clap_on_literals
+the_longest_bursts = (refl, refl)
+
+no_such_bursts : (fault_of commands (with_all (codes "0")) ≡ kind.ValueValidation ∷ [])
+    × (fault_of commands (with_all (codes "1000001")) ≡ kind.ValueValidation ∷ [])
+    × (fault_of commands (with_all (codes "18446744073709551616")) ≡ kind.ValueValidation ∷ [])
+    × (fault_of commands (with_all (codes "long")) ≡ kind.ValueValidation ∷ [])
+    × (fault_of commands (with_all []) ≡ kind.ValueValidation ∷ [])
+unfolding clap_on_literals
+no_such_bursts = (refl, refl, refl, refl, refl)
+
+bursts_without_a_number : fault_of commands (with_both (codes "4") (codes "1000") ++ (codes "--burst" ∷ [])) ≡ kind.InvalidValue ∷ []
+unfolding clap_on_literals
+bursts_without_a_number = refl
+
+bursts_twice : fault_of commands (with_all (codes "256") ++ (codes "--burst=256" ∷ [])) ≡ kind.ArgumentConflict ∷ []
+unfolding clap_on_literals
+bursts_twice = refl

@@ -1,7 +1,8 @@
 -- What a use of an argument leaves in its row: a value, and a number where its parser wants one.
-use Rattle.zl_command.proofs.Common.{Bool, Err, ErrorKind, HasNumber, HasValue, IsSome, List, None, Ok, Option, ParsesUnsigned, Result, Some, Text, [], arith}
-use Rattle.zl_command.proofs.Common.{bytes_eq, cond, false, filled, find, is_some, needed, number, number_of, numbered, option_and_then, option_map}
-use Rattle.zl_command.proofs.Common.{option_map_or, refl, slice_get, subst, sym, true, true≢false, with_index, ℕ, ◌++◌, ◌∙◌, ◌∷◌, ◌≡◌}
+use Rattle.zl_command.proofs.Common.{Bool, Err, ErrorKind, HasNumber, HasValue, IsSome, List, MayHaveNumber, None, Ok, Option, ParsesUnsigned, Result, Some}
+use Rattle.zl_command.proofs.Common.{Text, [], ap, arith, bytes_eq, cond, false, filled, find, inl, inr, is_some, needed, number, number_of, numbered}
+use Rattle.zl_command.proofs.Common.{option_and_then, option_map, option_map_or, refl, slice_get, subst, sym, true, true≢false, unwrap_or, with_index, ℕ}
+use Rattle.zl_command.proofs.Common.{◌++◌, ◌∙◌, ◌∷◌, ◌≡◌, ◌⊎◌}
 use Rattle.std.proofs.Common.{◌≤◌, ◌<◌, ◌^◌, leb-true, ltb-true}
 use Rattle.std.specs.Prelude.{IsSomeAnd, nat_lt}
 use Rattle.std.specs.List.{list_all}
@@ -83,10 +84,10 @@ filled_grows more r h = go r.values h
 pub needed_keeps : (rules : List Rule) (again : Bool) (name : Text) (place : ℕ) → KeepsRows rules again IsFilled (with_index place (filled (needed name)))
 needed_keeps rules again name place = use_keeps IsFilled filled_grows rules again (with_index place (filled (needed name))) refl refl (λ v vs e. tt)
 
-pub option_keeps : (rules : List Rule) (again : Bool) (name : Text) (least most place : ℕ)
-    → KeepsRows rules again IsFilled (with_index place (filled (numbered name least most)))
-option_keeps rules again name least most place =
-    use_keeps IsFilled filled_grows rules again (with_index place (filled (numbered name least most))) refl refl (λ v vs e. tt)
+pub option_keeps : (rules : List Rule) (again : Bool) (name : Text) (least most place : ℕ) (required : Bool)
+    → KeepsRows rules again IsFilled (with_index place (filled (record (numbered name least most) { required = required })))
+option_keeps rules again name least most place required =
+    use_keeps IsFilled filled_grows rules again (with_index place (filled (record (numbered name least most) { required = required }))) refl refl (λ v vs e. tt)
 
 -- what was given has a value
 pub given_first : (name : Text) (rows : List Row) → Each IsFilled rows → is_given name rows ≡ true → HasValue rows name
@@ -131,10 +132,11 @@ is_within least most text passes =
     (leb-true _ _ bounds.0, leb-true _ _ bounds.1)
 
 -- the option of that name, and any other argument
-pub number_keeps : (rules : List Rule) (again : Bool) (name : Text) (least most place : ℕ)
-    → KeepsRows rules again (IsNumberRow name least most) (with_index place (filled (numbered name least most)))
-number_keeps rules again name least most place =
-    use_keeps (IsNumberRow name least most) (number_grows name least most) rules again (with_index place (filled (numbered name least most))) refl refl
+pub number_keeps : (rules : List Rule) (again : Bool) (name : Text) (least most place : ℕ) (required : Bool)
+    → KeepsRows rules again (IsNumberRow name least most) (with_index place (filled (record (numbered name least most) { required = required })))
+number_keeps rules again name least most place required =
+    let rule = with_index place (filled (record (numbered name least most) { required = required })) in
+    use_keeps (IsNumberRow name least most) (number_grows name least most) rules again rule refl refl
     (λ v vs e same. is_within least most v (passed (is_unsigned_in least most v) ValueValidation (none_of _ _ e).0))
 
 pub other_keeps : (rules : List Rule) (again : Bool) (name : Text) (least most : ℕ) (a : Rule) → action_of a ≡ Set
@@ -163,6 +165,16 @@ given_number name least most rows each given =
     go None is_number e = absurd (true≢false (sym e))
     go (Some row) is_number e = is_number row refl
 
+-- what may be given has a number, if it was
+pub may_have_number : (name : Text) (least most : ℕ) (rows : List Row) → Each (IsNumberRow name least most) rows → MayHaveNumber rows name least most
+may_have_number name least most rows each =
+    go (find (λ r. bytes_eq r.id name) rows) (λ row is. found_has (IsNumberRow name least most) _ rows row each is (found_passes _ rows row is))
+  where
+    go : (found : Option Row) → ((row : Row) → found ≡ Some row → IsWithin least most (option_and_then number (row_text row)))
+        → (option_and_then row_text found ≡ None) ⊎ IsWithin least most (option_and_then number (option_and_then row_text found))
+    go None is_number = inl refl
+    go (Some row) is_number = inr (is_number row refl)
+
 -- ---- what is read of such a row
 
 digits_from : (ds : List ℕ) → list_all (λ d. nat_lt (digit_value d) 10) ds ≡ true → AllDigits 10 ds
@@ -178,8 +190,7 @@ numeral_from ds e =
 
 -- what `get_one` gives at an unsigned type that has room for the most
 module _ (E : Type 0) (G : Text → Result ℕ E → Type 0) (bits least most : ℕ) (parses : (t : Text) (x : Result ℕ E) → G t x → ParsesUnsigned bits 10 t x)
-    (room : most < 2 ^ bits) (found : Found) (name : Text) (r : Option ℕ) (reads : (t : Text) → one_text found name ≡ Some t → ReadsOne G t r)
-    (has : HasNumber (rows_of found) name least most) where
+    (room : most < 2 ^ bits) (found : Found) (name : Text) (r : Option ℕ) (reads : (t : Text) → one_text found name ≡ Some t → ReadsOne G t r) where
   abbrev IsRead : ℕ → Type 0
   IsRead n = (number_of name (rows_of found) ≡ Some n) × (least ≤ n) × (n ≤ most)
 
@@ -194,8 +205,11 @@ module _ (E : Type 0) (G : Text → Result ℕ E → Type 0) (bits least most : 
       absurd (parses t (Err read.0) read.1 (numeral_from _ is, small))
   by_text t x read false is bounds = absurd bounds
 
-  is_read : IsSomeAnd r IsRead
-  is_read = go (one_of name (rows_of found)) (one_text-rows found name) has
+  abbrev Has : Type 0
+  Has = HasNumber (rows_of found) name least most
+
+  is_read : Has → IsSomeAnd r IsRead
+  is_read has = go (one_of name (rows_of found)) (one_text-rows found name) has
     where
       go : (o : Option Text) → one_text found name ≡ o → IsWithin least most (option_and_then number o)
           → IsSomeAnd r (λ n. (option_and_then number o ≡ Some n) × (least ≤ n) × (n ≤ most))
@@ -203,12 +217,27 @@ module _ (E : Type 0) (G : Text → Result ℕ E → Type 0) (bits least most : 
       go (Some t) is bounds = by_text t r (reads t is) (is_numeral (without_leading_plus t)) refl bounds
 
   -- something, which is the number that the rows have
-  pub reads_some : is_some r ≡ true
-  reads_some = some_and r is_read
+  pub reads_some : Has → is_some r ≡ true
+  reads_some has = some_and r (is_read has)
     where
       some_and : (o : Option ℕ) → IsSomeAnd o IsRead → is_some o ≡ true
       some_and None h = absurd h
       some_and (Some n) h = refl
 
-  pub reads_number : (n : ℕ) → r ≡ Some n → IsRead n
-  reads_number n is = subst (λ (o : Option ℕ). IsSomeAnd o IsRead) is is_read
+  pub reads_number : Has → (n : ℕ) → r ≡ Some n → IsRead n
+  reads_number has n is = subst (λ (o : Option ℕ). IsSomeAnd o IsRead) is (is_read has)
+
+  -- the number that the rows have, or else this one
+  abbrev IsReadOr : ℕ → Option ℕ → Type 0
+  IsReadOr other o = (unwrap_or o other ≡ unwrap_or (number_of name (rows_of found)) other) × (least ≤ unwrap_or o other) × (unwrap_or o other ≤ most)
+
+  pub reads_or : (one_text found name ≡ None → r ≡ None) → MayHaveNumber (rows_of found) name least most → (other : ℕ) → least ≤ other → other ≤ most
+      → IsReadOr other r
+  reads_or none (inl nothing) other over under =
+      let no_number = ap (λ o. unwrap_or (option_and_then number o) other) nothing in
+      subst (IsReadOr other) (sym (none (one_text-rows found name ∙ nothing))) (sym no_number, over, under)
+  reads_or none (inr has) other over under = go r (is_read has)
+    where
+      go : (o : Option ℕ) → IsSomeAnd o IsRead → IsReadOr other o
+      go None h = absurd h
+      go (Some n) h = (sym (ap (λ x. unwrap_or x other) h.0), h.1, h.2)

@@ -1,6 +1,6 @@
 -- The command line: the command set as `clap` defines one, and what its words ask for.
-use Rattle.std.specs.Prelude.{◌≡◌, ◌≢◌, ◌≤◌, ◌⊎◌, true, codes, Option, Some, None, IsSome, IsSomeAnd, option_and_then, ℕ, List, [], ◌∷◌, fold}
-use Rattle.std.specs.Prelude.{Result, Ok, Err, if◌then◌else◌}
+use Rattle.std.specs.Prelude.{◌≡◌, ◌≢◌, ◌≤◌, ◌⊎◌, true, false, codes, Option, Some, None, IsSome, IsSomeAnd, option_and_then, unwrap_or, ℕ, List, [], ◌∷◌}
+use Rattle.std.specs.Prelude.{Result, Ok, Err, fold, if◌then◌else◌}
 use Rattle.std.specs.Str.Parse.{digits_value, without_leading_plus}
 use Rattle.clap.specs.ValueTests.{is_numeral}
 use Rattle.clap.specs.Words.{App, IsAmong, Kinds, Row, Rule, Text, first_of, new_app, new_rule, one_of, with_rule, with_subcommand}
@@ -25,6 +25,10 @@ numbered word least most = record (needed word) {
   value_names = 1;
   parser = Some (Unsigned least most);
 }
+
+-- an option that may be left out
+abbrev pub optional : Rule → Rule
+optional rule = record rule { required = false }
 
 -- a command of this name, whose words must all be there
 abbrev pub command_of : Text → List Text → App
@@ -53,9 +57,10 @@ stepping = command_of (codes "step") (codes "SCENARIO" ∷ codes "SCHEDULE" ∷ 
 abbrev pub replaying : App
 replaying = command_of (codes "replay") (codes "SCENARIO" ∷ codes "TRACE" ∷ [])
 
--- run SCENARIO --workers N --limit M
+-- run SCENARIO --workers N --limit M [--burst K]
 abbrev pub running : App
-running = with_rule (with_rule (command_of (codes "run") (codes "SCENARIO" ∷ [])) (numbered (codes "workers") 1 64)) (numbered (codes "limit") 0 1000000)
+running = fold with_rule (command_of (codes "run") (codes "SCENARIO" ∷ []))
+    (numbered (codes "workers") 1 64 ∷ numbered (codes "limit") 0 1000000 ∷ optional (numbered (codes "burst") 1 1000000) ∷ [])
 
 -- the command set: no words, or those of one of the commands
 abbrev pub commands : App
@@ -77,6 +82,10 @@ number_of name rows = option_and_then number (one_of name rows)
 abbrev pub HasNumber : List Row → Text → ℕ → ℕ → Type 0
 HasNumber rows name least most = IsSomeAnd (number_of name rows) (λ n. (least ≤ n) × (n ≤ most))
 
+-- clap finds nothing of this name, or reads a number from least to most
+abbrev pub MayHaveNumber : List Row → Text → ℕ → ℕ → Type 0
+MayHaveNumber rows name least most = (one_of name rows ≡ None) ⊎ HasNumber rows name least most
+
 -- the command of this name has its values
 abbrev pub HasItsValues : Text → List Row → Type 0
 HasItsValues name rows =
@@ -84,7 +93,8 @@ HasItsValues name rows =
     ⊎ (((name ≡ codes "check") × HasValue rows (codes "IMAGE"))
     ⊎ (((name ≡ codes "step") × HasValue rows (codes "SCENARIO") × HasValue rows (codes "SCHEDULE"))
     ⊎ (((name ≡ codes "replay") × HasValue rows (codes "SCENARIO") × HasValue rows (codes "TRACE"))
-    ⊎ ((name ≡ codes "run") × HasValue rows (codes "SCENARIO") × HasNumber rows (codes "workers") 1 64 × HasNumber rows (codes "limit") 0 1000000))))
+    ⊎ ((name ≡ codes "run") × HasValue rows (codes "SCENARIO") × HasNumber rows (codes "workers") 1 64
+    × HasNumber rows (codes "limit") 0 1000000 × MayHaveNumber rows (codes "burst") 1 1000000))))
 
 -- clap finds no subcommand, or one of the command set with its values
 abbrev pub HasValues : Option (Text × List Row) → Type 0
@@ -105,10 +115,11 @@ AsksFor (Some found) (Step scenario schedule) = (found.0 ≡ codes "step")
 AsksFor (Some found) (Replay scenario trace) = (found.0 ≡ codes "replay")
     × (first_of (codes "SCENARIO") found.1 ≡ Some scenario.now)
     × (first_of (codes "TRACE") found.1 ≡ Some trace.now)
-AsksFor (Some found) (Run scenario workers limit) = (found.0 ≡ codes "run")
+AsksFor (Some found) (Run scenario workers limit burst) = (found.0 ≡ codes "run")
     × (first_of (codes "SCENARIO") found.1 ≡ Some scenario.now)
     × (number_of (codes "workers") found.1 ≡ Some workers) × (1 ≤ workers) × (workers ≤ 64)
     × (number_of (codes "limit") found.1 ≡ Some limit) × (limit ≤ 1000000)
+    × (burst ≡ unwrap_or (number_of (codes "burst") found.1) 256) × (1 ≤ burst) × (burst ≤ 1000000)
 AsksFor _ _ = ⊥
 
 -- of an answer that is a task, the task has the fact

@@ -1,9 +1,9 @@
 //! The command line, read with `clap`: what its words ask for, and its help.
-ghost use Rattle.std.specs.Prelude.{◌≡◌, ◌≢◌, ◌≤◌, Some, IfOk, IfErr, map, codes, false, [], ◌∷◌};
+ghost use Rattle.std.specs.Prelude.{◌≡◌, ◌≢◌, ◌≤◌, Some, IfOk, IfErr, map, codes, false, unwrap_or, [], ◌∷◌};
 ghost use Rattle.clap.specs.Takes.{takes};
 ghost use Rattle.clap.specs.Words.{app_of, fault_of, first_of, found_of, kind_of, rows_of, rule_of, subcommand_of, subcommand_rows_of};
-ghost use Rattle.zl_command.specs.Words.{AnswersError, AsksFor, GivesText, HasItsValues, HasNumber, HasValue, HasValues, IfTask, IfText, MayAskForHelp};
-ghost use Rattle.zl_command.specs.Words.{assembling, checking, commands, needed, number_of, replaying, running, stepping};
+ghost use Rattle.zl_command.specs.Words.{AnswersError, AsksFor, GivesText, HasItsValues, HasNumber, HasValue, HasValues, IfTask, IfText, MayAskForHelp, MayHaveNumber};
+ghost use Rattle.zl_command.specs.Words.{assembling, checking, commands, needed, number_of, numbered, replaying, running, stepping};
 ghost use Rattle.zl_command.specs.declared.command.WordFault.TheVariants.{NoMemory, Usage};
 
 mod texts;
@@ -55,8 +55,8 @@ pub enum Task<'a> {
         /// The path of the trace.
         trace: &'a str,
     },
-    /// `run SCENARIO --workers N --limit M`: a scenario runs on so many threads, and its trace is
-    /// written.
+    /// `run SCENARIO --workers N --limit M [--burst K]`: a scenario runs on so many threads, and its
+    /// trace is written.
     Run {
         /// The path of the scenario.
         scenario: &'a str,
@@ -64,6 +64,8 @@ pub enum Task<'a> {
         workers: u32,
         /// How many items the trace has at most, 0 to 1,000,000.
         limit: u64,
+        /// How many local instructions a burst has at most, 1 to 1,000,000; 256 without the option.
+        burst: u32,
     },
 }
 
@@ -160,6 +162,7 @@ fn task_of_command<'a>(name: &str, values: &ArgMatches<'a>) -> Task<'a>
             scenario: value(values, "SCENARIO"),
             workers: workers(values),
             limit: limit(values),
+            burst: burst(values),
         }
     } else {
         Task::Check {
@@ -192,6 +195,16 @@ fn limit<'a>(matches: &ArgMatches<'a>) -> u64
     ensures within { result ≤ 1000000 }
 {
     matches.get_one("limit").unwrap()
+}
+
+/// The length of a burst, which is 256 where the words have none.
+fn burst<'a>(matches: &ArgMatches<'a>) -> u32
+    requires { MayHaveNumber (rows_of (found_of matches.now)) (codes "burst") 1 1000000 }
+    ensures value { result
+        ≡ unwrap_or (number_of (codes "burst") (rows_of (found_of matches.now))) 256 }
+    ensures within { (1 ≤ result) × (result ≤ 1000000) }
+{
+    matches.get_one("burst").unwrap_or(256)
 }
 
 /// The command set, with what the help says of it.
@@ -249,19 +262,33 @@ fn replaying<'a>(alloc: Global) -> Result<Command<'a>, AllocError>
 fn running<'a>(alloc: Global) -> Result<Command<'a>, AllocError>
     ensures { IfOk result (λ made. app_of made ≡ running) }
 {
-    let workers = needed(alloc, "workers", "The number of threads, 1 to 64")
-        .long("workers")
-        .value_name("N")
-        .value_parser(ValueParser::unsigned(1, 64));
-    let limit = needed(alloc, "limit", "The most items of the trace, 0 to 1000000")
-        .long("limit")
-        .value_name("M")
-        .value_parser(ValueParser::unsigned(0, 1_000_000));
+    let workers = numbered(alloc, "workers", "N", texts::WORKERS, 1, 64);
+    let limit = numbered(alloc, "limit", "M", texts::LIMIT, 0, 1_000_000);
+    let burst = numbered(alloc, "burst", "K", texts::BURST, 1, 1_000_000);
     Command::new(alloc, "run")
         .about("Runs the scenario in the file SCENARIO on N threads")
         .arg(needed(alloc, "SCENARIO", "The file of the scenario"))?
         .arg(workers)?
-        .arg(limit)
+        .arg(limit)?
+        .arg(burst.required(false))
+}
+
+/// An option that must be there, whose value is a number from the one to the other.
+fn numbered<'a>(
+    alloc: Global,
+    name: &'a str,
+    letter: &'a str,
+    help: &'a str,
+    least: u64,
+    most: u64,
+) -> Arg<'a>
+    ensures rule { rule_of result ≡ numbered name.entry.now least most }
+    ensures local { result.global ≡ false }
+{
+    needed(alloc, name, help)
+        .long(name)
+        .value_name(letter)
+        .value_parser(ValueParser::unsigned(least, most))
 }
 
 /// A word that must be there.

@@ -2,6 +2,7 @@
 
 use std::alloc::{AllocError, Global};
 use std::convert::AsStr;
+use std::mem;
 use zl_program_hints::{Value, Word, push_nearest, push_text};
 
 const COMMANDS: [&str; 6] = ["asm", "check", "step", "replay", "run", "help"];
@@ -69,12 +70,20 @@ const LIMIT: Numbered = Numbered {
     most: 1_000_000,
 };
 
+const BURST: Numbered = Numbered {
+    name: "--burst",
+    letter: "K",
+    least: 1,
+    most: 1_000_000,
+};
+
 /// What was met of the words behind `run`.
 #[derive(Clone, Copy)]
 struct Met {
     has_file: bool,
     has_workers: bool,
     has_limit: bool,
+    has_burst: bool,
     /// Whether a word `--` was among them.
     are_files: bool,
     /// The option whose number is the next word.
@@ -83,7 +92,7 @@ struct Met {
 
 const OPTIONS: [&str; 4] = ["--help", "--version", "-h", "-V"];
 
-const OPTIONS_OF_RUN: [&str; 3] = ["--workers", "--limit", "--help"];
+const OPTIONS_OF_RUN: [&str; 4] = ["--workers", "--limit", "--burst", "--help"];
 
 /// Adds which of the words, those behind the program's name, wasn't understood.
 pub fn explain_words<S: AsStr>(hint: &mut String, alloc: Global, words: &[S]) {
@@ -185,6 +194,7 @@ fn push_run<S: AsStr>(hint: &mut String, alloc: Global, words: &[S]) -> Result<(
         has_file: false,
         has_workers: false,
         has_limit: false,
+        has_burst: false,
         are_files: false,
         open: None,
     };
@@ -230,7 +240,7 @@ fn push_wrong_option(
     met: &mut Met,
     word: &str,
 ) -> Result<bool, AllocError> {
-    for option in [WORKERS, LIMIT] {
+    for option in [WORKERS, LIMIT, BURST] {
         if let Some(rest) = word.strip_prefix(option.name) {
             if rest.is_empty() || rest.starts_with('=') {
                 return push_wrong_use(hint, met, option, rest);
@@ -252,19 +262,16 @@ fn push_wrong_use(
     option: Numbered,
     rest: &str,
 ) -> Result<bool, AllocError> {
-    let is_second = if option.name == WORKERS.name {
-        met.has_workers
+    let is_met = if option.name == WORKERS.name {
+        &mut met.has_workers
+    } else if option.name == LIMIT.name {
+        &mut met.has_limit
     } else {
-        met.has_limit
+        &mut met.has_burst
     };
-    if is_second {
+    if mem::replace(is_met, true) {
         push_text(hint, "# stands twice", &[Value::Name(option.name)])?;
         return Ok(true);
-    }
-    if option.name == WORKERS.name {
-        met.has_workers = true;
-    } else {
-        met.has_limit = true;
     }
     let Some(number) = rest.strip_prefix('=') else {
         met.open = Some(option);
@@ -309,7 +316,7 @@ fn push_missing(hint: &mut String, met: Met) -> Result<(), AllocError> {
         return hint.push_str("run takes one file, SCENARIO, and has none");
     }
     if met.has_workers && met.has_limit {
-        return hint.push_str("run takes SCENARIO --workers N --limit M");
+        return hint.push_str("run takes SCENARIO --workers N --limit M [--burst K]");
     }
     let option = if met.has_workers { LIMIT } else { WORKERS };
     let values = [

@@ -105,8 +105,9 @@ fn run<R: AllocGlobal + Env + Files + Input + Print + Threads + Wait + Sync>(
                 scenario,
                 workers,
                 limit,
+                burst,
             },
-        ) => run_threads(rt, hints, scenario, workers, limit),
+        ) => run_threads(rt, hints, scenario, workers, limit, burst),
         Asked::Task(Task::Replay { scenario, trace }) => replay(rt, hints, scenario, trace),
     };
     Ok(ended?)

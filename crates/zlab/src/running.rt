@@ -30,8 +30,9 @@ pub enum Started {
 }
 
 /// Reads a scenario, in which a line `--` is a fault, runs it on so many worker threads, of which 0
-/// count as 1, and writes the trace that came about or the line of the first fault. All input is read
-/// before anything is written.
+/// count as 1, with so many local instructions in a burst at most, of which 0 count as 1 too, and writes
+/// the trace that came about or the line of the first fault. All input is read before anything is
+/// written.
 ///
 /// The trace is the text of a legal history, in each world of which handles are sound and name objects
 /// of their kind, and in which each process of a checked program goes well. It is the lab's own, as that
@@ -52,6 +53,7 @@ pub fn run_engine<P: Threads + Wait + Sync, R: Read, W: Write>(
     hints: &mut String,
     workers: u32,
     limit: u64,
+    burst: u32,
 ) -> Result<Verdict, EngineFault>
     requires limit { limit ≤ MOST_ITEMS }
     ensures ok { IfOk result (λ verdict. AnswersRun (R.remaining reader.old) limit verdict
@@ -66,7 +68,9 @@ pub fn run_engine<P: Threads + Wait + Sync, R: Read, W: Write>(
 {
     let input = read_input(alloc, reader)?;
     match start(alloc, &input, limit, hints)? {
-        Started::Ready(system) => write_threads(rt, alloc, writer, hints, system, workers),
+        Started::Ready(system) => {
+            write_threads(rt, alloc, writer, hints, system, workers, burst)
+        }
         Started::Refused(fault) => write_refusal(alloc, writer, fault),
     }
 }
@@ -135,6 +139,7 @@ fn write_threads<P: Threads + Wait + Sync, W: Write>(
     hints: &mut String,
     system: System,
     workers: u32,
+    burst: u32,
 ) -> Result<Verdict, EngineFault>
     ensures verdict { IfOk result (λ verdict. verdict ≡ Verdict.Done) }
     ensures ok { OnOk result (WritesThreads system (W.contents writer.old)
@@ -146,7 +151,7 @@ fn write_threads<P: Threads + Wait + Sync, W: Write>(
         ≡ W.contents writer.old) }
 {
     let mut block = empty_block(alloc)?;
-    let (last, ended) = zl_pool::run(rt, system, workers, &Direct);
+    let (last, ended) = zl_pool::run_in_bursts(rt, system, workers, &Direct, burst);
     let Some(end) = end_named(ended) else {
         return Err(EngineFault::Mixed);
     };

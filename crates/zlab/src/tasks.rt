@@ -107,20 +107,30 @@ pub fn step_files<R: AllocGlobal + Files + Print>(
     answer_with(hints, ended, failed_of(&first, &second), &writer)
 }
 
-/// Runs the scenario in the file on so many threads, and answers on standard output.
+/// Runs the scenario in the file on so many threads, with bursts of so many instructions at most, and
+/// answers on standard output.
 pub fn run_threads<R: AllocGlobal + Files + Print + Threads + Wait + Sync>(
     rt: &R,
     hints: &mut String,
     scenario: &str,
     workers: u32,
     limit: u64,
+    burst: u32,
 ) -> Result<Verdict, EngineFault>
     requires { limit ≤ MOST_ITEMS }
 {
     let mut reader = Told::new(scenario, open(rt, hints, scenario)?);
     let mut writer = Told::new(OUTPUT, io::writer(rt));
-    let alloc = rt.alloc();
-    let ended = run_engine(rt, alloc, &mut reader, &mut writer, hints, workers, limit);
+    let ended = run_engine(
+        rt,
+        rt.alloc(),
+        &mut reader,
+        &mut writer,
+        hints,
+        workers,
+        limit,
+        burst,
+    );
     answer_with(hints, ended, &reader, &writer)
 }
 

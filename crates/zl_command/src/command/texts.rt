@@ -5,6 +5,13 @@ pub const ABOUT: &str = "\
 A lab for small processes on a model of Zircon's handles: it runs their programs under a schedule
 or on threads, and writes every system call with its answer, in the order in which they were made.";
 
+/// The options of `run`.
+pub const WORKERS: &str = "The number of threads, 1 to 64";
+
+pub const LIMIT: &str = "The most items of the trace, 0 to 1000000";
+
+pub const BURST: &str = "The most local instructions at a time, 1 to 1000000 [default: 256]";
+
 /// The forms of the command line, and the exit statuses.
 pub const FORMS: &str = "\
 The forms of a command line:
@@ -16,11 +23,12 @@ The forms of a command line:
       Does the same with the scenario and the schedule in two files, joined by a line `--`; lines are
       counted in what is joined.
       Example: zlab step pair.zls turns.txt
-  zlab run SCENARIO --workers N --limit M
+  zlab run SCENARIO --workers N --limit M [--burst K]
       Runs the scenario in the file SCENARIO, which has no schedule, on N threads, for at most M
-      items of trace in place of the scenario's limit; N is 1 to 64, and M 0 to 1000000. Writes the
-      trace that came about, with `end quiet` where no process is ready at the end, `end limit` or
-      `end memory`, or `refused LINE FAULT`.
+      items of trace in place of the scenario's limit; N is 1 to 64, and M 0 to 1000000. A thread
+      does at most K local instructions of a process before it looks for the next one, 1 to 1000000,
+      256 without the option. Writes the trace that came about, with `end quiet` where no process is
+      ready at the end, `end limit` or `end memory`, or `refused LINE FAULT`.
       Example: zlab run pair.zls --workers 4 --limit 1000
   zlab replay SCENARIO TRACE
       Does the steps of the trace in the file TRACE again, from the scenario in the file SCENARIO,

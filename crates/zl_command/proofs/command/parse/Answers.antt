@@ -1,4 +1,4 @@
-use Rattle.zl_command.proofs.Common.{HasValues, ap, commands, fault_of, inl, inr, is_simple, is_simple_and_free, map, refl, subcommand_of, subst, sym, takes}
+use Rattle.zl_command.proofs.Common.{AsksFor, HasValues, ap, commands, fault_of, inl, inr, is_simple, is_simple_and_free, map, refl, subcommand_of, subst, sym, takes}
 use Rattle.zl_command.proofs.Common.{◌∙◌}
 use Rattle.clap.specs.Kinds.{HasKind}
 use Rattle.zl_command.proofs.CommandLine.{found_values, gives_text, has_fault, may_ask, no_task, none_found, not_taken}
@@ -10,6 +10,13 @@ task_of-requires g c =
     let texts = map g.S.AsStr.text c.args.words.now in
     let found = (c.in-Ok.ensures.matches (ap is_simple app)).1 ∙ ap (λ a. subcommand_of a texts) app in
     subst HasValues (sym found) (found_values texts (none_found _ texts app c.in-Ok.ensures.kinds))
+
+pub returns-in-Ok-clause-task : goal.returns-in-Ok-clause-task
+returns-in-Ok-clause-task g c =
+    let app = c.in_ok-command.ensures in
+    let texts = map g.S.AsStr.text c.args.words.now in
+    let found = (c.in-Ok.ensures.matches (ap is_simple app)).1 ∙ ap (λ a. subcommand_of a texts) app in
+    subst (λ rows. AsksFor rows c.task_of.result) found c.task_of.ensures
 
 pub returns-in-Ok-clause-taken : goal.returns-in-Ok-clause-taken
 returns-in-Ok-clause-taken g c = none_found _ (map g.S.AsStr.text c.args.words.now) c.in_ok-command.ensures c.in-Ok.ensures.kinds

@@ -4,7 +4,7 @@ ghost use Rattle.zl_pool.specs.Pool.{Finds, Gives};
 
 use crate::gate::Gate;
 use std::sync::{Condvar, Mutex, Wait};
-use zl_interp::{Done, Turn};
+use zl_interp::{Done, Stop, Turn};
 use zl_sched::{HandIn, Kernel};
 
 /// The kernel behind its lock, and where workers wait until something was handed in.
@@ -64,13 +64,31 @@ fn give<K: Kernel>(kernel: &mut K, done: Done) -> bool
     }
 }
 
-/// Waits for a turn. There is none where the kernel is idle or memory was refused.
-fn next_turn<R: Wait, K: Kernel>(rt: &R, desk: &Desk<K>) -> Option<Turn> {
+/// Hands in what was done, if anything was, and waits for a turn. There is none where the trace is full,
+/// the kernel is idle, or memory was refused.
+fn next_turn<R: Wait, K: Kernel>(rt: &R, desk: &Desk<K>, done: Option<Done>) -> Option<Turn> {
     let mut kernel = desk.kernel.lock(rt);
+    let mut wakes = false;
+    if let Some(done) = done {
+        // By local instructions alone nobody else became ready.
+        wakes = done.stop() != Stop::More;
+        if !give(&mut *kernel, done) {
+            return None;
+        }
+    }
     for _ in rt.forever() {
         match next(&mut *kernel) {
-            Found::Turn(turn) => return Some(turn),
-            Found::Waits => kernel = desk.handed_in.wait(rt, kernel),
+            Found::Turn(turn) => {
+                drop(kernel);
+                if wakes {
+                    desk.handed_in.notify_one();
+                }
+                return Some(turn);
+            }
+            Found::Waits => {
+                kernel = desk.handed_in.wait(rt, kernel);
+                wakes = true;
+            }
             Found::Idle | Found::NoMemory => return None,
         }
     }
@@ -82,19 +100,18 @@ fn next_turn<R: Wait, K: Kernel>(rt: &R, desk: &Desk<K>) -> Option<Turn> {
 ///
 /// While nothing is ready, but something is out, it waits until something was handed in; so it waits for
 /// ever for what nobody hands in. Source: own profile.
+// No turn is left to sleepers. Whoever hands in takes a turn itself, and wakes one if others may have become
+// ready; each that was woken does so too where it finds a turn, so waking ends where none is left. Whoever
+// ends wakes all: each of these finds a turn, ends, or waits for one that is out, whose worker comes back.
 pub fn work<R: Wait, K: Kernel, G: Gate>(rt: &R, desk: &Desk<K>, gate: &G, most: u32) {
     let most = most.max(1);
+    let mut done = None;
     for _ in rt.forever() {
-        let Some(turn) = next_turn(rt, desk) else {
+        let Some(turn) = next_turn(rt, desk, done) else {
+            desk.handed_in.notify_all();
             return;
         };
-        let done = gate.burst(turn, most);
-        let goes_on = give(&mut *desk.kernel.lock(rt), done);
-        // Also before this worker ends: others may wait for what it handed in.
-        desk.handed_in.notify_all();
-        if !goes_on {
-            return;
-        }
+        done = Some(gate.burst(turn, most));
     }
     unreachable!()
 }

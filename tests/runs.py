@@ -12,6 +12,8 @@ from meaning.trouble import Trouble
 # The lines behind the items, as the lab writes them.
 LAST = re.compile(r"(?:process \d+ (?:created|ready|blocked|ended -?\d+|gone)\n)*end \w+\n")
 FAULTS = {"BAD_HANDLE", "WRONG_TYPE", "ACCESS_DENIED"}
+# The most local instructions at a time where nothing is said of it.
+BURST = 256
 # Whom a policy has ended.
 POLICY = "ended -1026"
 
@@ -83,9 +85,10 @@ class Runs(Lab):
         ran = self.start(words, b"")
         return ran and (ran[0], *(text.decode(errors="replace") for text in ran[1:]))
 
-    def run(self, scenario, workers, limit):
-        """The trace of a run of the scenario, a file, and what is wrong with it."""
-        answer = self.answer("run", scenario, "--workers", workers, "--limit", limit)
+    def run(self, scenario, workers, limit, burst=None):
+        """The trace of a run of the scenario, a file, with bursts of this length if it is said, and what is wrong with it."""
+        bursts = () if burst is None else ("--burst", burst)
+        answer = self.answer("run", scenario, "--workers", workers, "--limit", limit, *bursts)
         if answer is None:
             return None, [f"it goes on after {self.seconds} s"]
         status, written, said = answer
@@ -93,6 +96,7 @@ class Runs(Lab):
         if status != 0 or trace is None:
             return None, [f"status {status}: {written[-200:]!r}, {said[-200:]!r}"]
         faults = [*wrong_end(trace, limit), *breaches(trace.items, checked_processes(scenario.read_text()))]
+        faults += [f"too long: {item.text}" for item in trace.items if item.name == "run" and item.count > (burst or BURST)]
         self.kept.write_text(written)
         answer = self.answer("replay", scenario, self.kept)
         if answer is None or answer[:2] != (0, f"replayed {len(trace.items)}\n"):

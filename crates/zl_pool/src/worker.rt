@@ -3,7 +3,7 @@
 ghost use Rattle.zl_pool.specs.Pool.{Finds, Gives};
 
 use crate::gate::Gate;
-use std::sync::{Condvar, Mutex, Wait};
+use std::sync::{Condvar, Mutex, MutexGuard, Wait};
 use zl_interp::{Done, Stop, Turn};
 use zl_sched::{HandIn, Kernel};
 
@@ -64,18 +64,15 @@ fn give<K: Kernel>(kernel: &mut K, done: Done) -> bool
     }
 }
 
-/// Hands in what was done, if anything was, and waits for a turn. There is none where the trace is full,
-/// the kernel is idle, or memory was refused.
-fn next_turn<R: Wait, K: Kernel>(rt: &R, desk: &Desk<K>, done: Option<Done>) -> Option<Turn> {
-    let mut kernel = desk.kernel.lock(rt);
-    let mut wakes = false;
-    if let Some(done) = done {
-        // By local instructions alone nobody else became ready.
-        wakes = done.stop() != Stop::More;
-        if !give(&mut *kernel, done) {
-            return None;
-        }
-    }
+/// Waits for a turn, and wakes the next to look for one if it has to. There is none where the kernel is
+/// idle or memory was refused.
+fn next_turn<'a, R: Wait, K: Kernel>(
+    rt: &R,
+    desk: &'a Desk<K>,
+    kernel: MutexGuard<'a, K>,
+    wakes: bool,
+) -> Option<Turn> {
+    let (mut kernel, mut wakes) = (kernel, wakes);
     for _ in rt.forever() {
         match next(&mut *kernel) {
             Found::Turn(turn) => {
@@ -105,13 +102,20 @@ fn next_turn<R: Wait, K: Kernel>(rt: &R, desk: &Desk<K>, done: Option<Done>) -> 
 // ends wakes all: each of these finds a turn, ends, or waits for one that is out, whose worker comes back.
 pub fn work<R: Wait, K: Kernel, G: Gate>(rt: &R, desk: &Desk<K>, gate: &G, most: u32) {
     let most = most.max(1);
-    let mut done = None;
+    let mut wakes = false;
+    let mut kernel = desk.kernel.lock(rt);
     for _ in rt.forever() {
-        let Some(turn) = next_turn(rt, desk, done) else {
-            desk.handed_in.notify_all();
-            return;
+        let Some(turn) = next_turn(rt, desk, kernel, wakes) else {
+            break;
         };
-        done = Some(gate.burst(turn, most));
+        let done = gate.burst(turn, most);
+        // By local instructions alone nobody else becomes ready.
+        wakes = done.stop() != Stop::More;
+        kernel = desk.kernel.lock(rt);
+        if !give(&mut *kernel, done) {
+            drop(kernel);
+            break;
+        }
     }
-    unreachable!()
+    desk.handed_in.notify_all();
 }

@@ -13,6 +13,6 @@ pub use Rattle.zl_code.specs.Asked.{has_its_memory, used}
 pub use Rattle.zl_code.specs.Local.{goes_to}
 pub use Rattle.zl_code.specs.Steps.{moves, next_of}
 pub use Rattle.zl_code.specs.declared.instr.Instr.{Instr}
-pub use Rattle.zl_interp.specs.Bursts.{Agrees, CanStand, Done, HasBytes, IsBurst, Leads, after_locals, moved_to, stop_at, then_moved}
+pub use Rattle.zl_interp.specs.Bursts.{Agrees, CanStand, Done, HasBytes, IsBurst, Leads, after_locals, is_filled, marked, moved_to, stop_at, then_moved}
 pub use Rattle.zl_interp.specs.Program.{program_value}
 pub use Rattle.zl_verify.specs.Covered.{IsAble, IsVerified}

@@ -4,8 +4,6 @@ use Rattle.zl_interp.proofs.Common.{none-some, refl, same_Some, slice_get, slice
 use Rattle.std.proofs.lemmas.Option.{slice_get-get_or, slice_get_past, slice_get_within}
 use Rattle.zl_verify.proofs.Places.{below_or_not, equal_or_not, get_put, get_put_other, nowhere}
 
--- ---- one that is filled
-
 module _ (code : List Instr) (places : List (Option Instr)) (n : ℕ) (agrees : Agrees code places) where
   abbrev after : List (Option Instr)
   after = slice_set places n (slice_get code n)
@@ -52,19 +50,3 @@ module _ (code : List Instr) (places : List (Option Instr)) (n : ℕ) (agrees : 
         by (Some x) at there = agrees_then.filled n x (here x at) ∙ sym at
         by None at (inl within) = absurd (nowhere code n at within)
         by None at (inr past) = slice_get_past other n (omega (arith, past, agrees_then.long, long_after)) ∙ sym at
-
--- ---- one that is filled already
-
-set_same : {X : Type 0} (xs : List X) (n : ℕ) (x : X) → slice_get xs n ≡ Some x → xs ≡ slice_set xs n x
-set_same [] n x at = refl
-set_same (y ∷ xs) zero x at = ap (λ z. z ∷ xs) (same_Some y x at)
-set_same (y ∷ xs) (suc n) x at = ap (λ ys. y ∷ ys) (set_same xs n x at)
-
--- stays as it is
-pub stays_filled : (code : List Instr) (places : List (Option Instr)) (n : ℕ) (d : Option Instr) → Agrees code places → n < length code
-    → is_some (get_or places n d) ≡ true → places ≡ slice_set places n (slice_get code n)
-stays_filled code places n d agrees within full = by (get_or places n d) (slice_get-get_or places n d (omega (arith, within, agrees.long))) full
-  where
-    by : (o : Option Instr) → slice_get places n ≡ Some o → is_some o ≡ true → places ≡ slice_set places n (slice_get code n)
-    by None at full = absurd (false≢true full)
-    by (Some x) at full = set_same places n (slice_get code n) (at ∙ ap Some (sym (agrees.filled n x at)))

@@ -5,6 +5,7 @@ pub mod Packed
 pub mod Listing
 pub mod Standing
 pub mod Filling
+pub mod Marked
 pub mod Spelled
 pub mod Going
 pub mod Verified

@@ -1,5 +1,5 @@
 -- Local instructions in a row, and where they end.
-use Rattle.std.specs.Prelude.{ℕ, zero, suc, ◌≡◌, true, IsTrue, List, length, slice_get, Option, Some, None}
+use Rattle.std.specs.Prelude.{ℕ, zero, suc, ◌≡◌, ◌<◌, ◌≤◌, Bool, true, false, IsTrue, List, [], ◌∷◌, length, slice_get, Option, Some, None, if◌then◌else◌}
 use Rattle.std.specs.Option.{option_map}
 use Rattle.zl_code.specs.Common.{Cpu, Image, Program, Next, AtCall, Moves, IsStuck}
 use Rattle.zl_code.specs.Spells.{instr_bytes, is_instr_in_range}
@@ -48,6 +48,22 @@ pub record Done : Type 0 where
   pub version : Version
   pub places : List (Option Instr)
 
+-- the code with each place emptied that isn't marked
+abbrev pub marked : List Instr → List Bool → List (Option Instr)
+marked [] marks = []
+marked (x ∷ code) [] = None ∷ marked code []
+marked (x ∷ code) (mark ∷ marks) = (if mark then Some x else None) ∷ marked code marks
+
+-- whether what stands in a place fills it
+abbrev pub fills : Option (Option Instr) → Bool
+fills None = false
+fills (Some None) = false
+fills (Some (Some x)) = true
+
+-- whether the place with this number is filled
+abbrev pub is_filled : List (Option Instr) → ℕ → Bool
+is_filled places n = fills (slice_get places n)
+
 -- the code has as many instructions as there are places, and in each that is filled this one
 pub record Agrees (code : List Instr) (places : List (Option Instr)) : Type 0 where
   pub long : length code ≡ length places
@@ -65,16 +81,27 @@ pub record IsBurst (d : Done) : Type 0 where
 
 -- ---- how the code gets there; no public clause cites what follows
 
--- the code agrees, and in each image that does so many local instructions lead from the one Cpu to the other
-pub record Leads (code : List Instr) (places : List (Option Instr)) (n : ℕ) (from to : Cpu) : Type 0 where
-  pub agrees : Agrees code places
+-- in each image that agrees so many local instructions lead from the one Cpu to the other
+pub record Leads (places : List (Option Instr)) (n : ℕ) (from to : Cpu) : Type 0 where
   pub follows : (i : Image) → Agrees i.code places → after_locals i n from ≡ Some to
 
 -- what fills a place can stand in an image of the version
 pub record CanStand (v : Version) (places : List (Option Instr)) : Type 0 where
   pub stands : (n : ℕ) (x : Instr) → slice_get places n ≡ Some (Some x) → IsTrue (is_instr_in_range v true x)
 
+-- where the place with this number is filled, the code has an instruction there with the same bytes
+abbrev pub IsSpelledAt : List Instr → List (Option Instr) → ℕ → Type 0
+IsSpelledAt code places n = (x : Instr) → slice_get places n ≡ Some (Some x) → option_map instr_bytes (slice_get code n) ≡ Some (instr_bytes x)
+
+-- and so for each of these places
+abbrev pub IsSpelledFrom : List Instr → List (Option Instr) → ℕ → ℕ → Type 0
+IsSpelledFrom code places start end = (n : ℕ) → start ≤ n → n < end → IsSpelledAt code places n
+
+-- none of these places is marked
+abbrev pub AreUnmarked : List Bool → ℕ → ℕ → Type 0
+AreUnmarked marks start end = (n : ℕ) → start ≤ n → n < end → slice_get marks n ≡ Some false
+
 -- as many as there are places, and in each that is filled one with these bytes
 pub record HasBytes (code : List Instr) (places : List (Option Instr)) : Type 0 where
   pub long : length code ≡ length places
-  pub bytes : (n : ℕ) (x : Instr) → slice_get places n ≡ Some (Some x) → option_map instr_bytes (slice_get code n) ≡ Some (instr_bytes x)
+  pub bytes : (n : ℕ) → IsSpelledAt code places n

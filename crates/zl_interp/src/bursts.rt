@@ -1,12 +1,11 @@
 //! Bursts: the local instructions that a process does in a row, without its world.
 
-ghost use Rattle.std.specs.Prelude.{◌≡◌, ◌≤◌, ◌<◌, ◌↔◌, Some, IsTrue, IfOk, length, slice_get, slice_set};
+ghost use Rattle.std.specs.Prelude.{◌≡◌, ◌≤◌, ◌<◌, ◌↔◌, ◌+◌, Some, IsTrue, IfOk, false, length, slice_get, slice_index_or, slice_set};
 ghost use Rattle.std.specs.Arc.{arc_value};
 ghost use Rattle.zl_code.specs.Image.{Image as ImageValue};
 ghost use Rattle.zl_code.specs.Spells.{instr_bytes};
 ghost use Rattle.zl_code.specs.Steps.{next_at};
-ghost use Rattle.zl_code.specs.declared.instr.Instr.{Instr as InstrValue};
-ghost use Rattle.zl_interp.specs.Bursts.{Agrees, HasBytes, IsBurst, Leads, Matches, stop_at};
+ghost use Rattle.zl_interp.specs.Bursts.{Agrees, AreUnmarked, HasBytes, IsBurst, IsSpelledAt, IsSpelledFrom, Leads, Matches, is_filled, marked, stop_at};
 ghost use Rattle.zl_interp.specs.Program.{program_value};
 ghost use Rattle.zl_interp.specs.declared.bursts.Stop.TheVariants.{More};
 ghost use Rattle.zl_verify.specs.Covered.{IsAble, IsAbleIn};
@@ -33,25 +32,34 @@ pub enum Stop {
     Stuck,
 }
 
+/// What a turn carries to what was done: the Cpu with which it begins, the one that goes on, and a mark
+/// for each instruction of the program.
+///
+/// It is large, so it lies in one place, in which a burst works.
+#[derive(Drop)]
+struct Work {
+    from: Cpu,
+    to: Cpu,
+    marks: Vec<bool>,
+}
+
 /// A process that may go on by itself: its koid, its program, and its Cpu as it stands.
 ///
 /// Where its program was checked, the Cpu is as a typing of it says. There is room for a second Cpu,
-/// and a place for each instruction of the program, so that a burst takes no memory.
+/// and a mark for each instruction of the program, so that a burst takes no memory.
 ///
 /// Source: own profile.
 #[derive(Drop)]
 pub struct Turn {
     pid: Pid,
     program: Arc<Program>,
-    from: Cpu,
-    to: Cpu,
-    places: Vec<Option<Instr>>,
+    work: Box<Work>,
 }
 
 impl Model for Turn {
-    ghost use Rattle.std.specs.Prelude.{◌≡◌};
+    ghost use Rattle.std.specs.Prelude.{◌≡◌, length};
     ghost use Rattle.std.specs.Arc.{arc_value};
-    ghost use Rattle.zl_interp.specs.Bursts.{Agrees, Turn as TurnValue};
+    ghost use Rattle.zl_interp.specs.Bursts.{Agrees, Turn as TurnValue, marked};
     ghost use Rattle.zl_interp.specs.Program.{program_value};
 
     ghost Value = { TurnValue };
@@ -59,14 +67,15 @@ impl Model for Turn {
     ghost view = { λ t. record {
       pid = t.pid;
       program = program_value (arc_value t.program);
-      cpu = t.from;
+      cpu = t.work.value.from;
     } };
 
     ghost use Rattle.zl_verify.specs.Covered.{IsAbleIn};
 
     ghost invariant = { λ t.
-        (t.to ≡ t.from) × IsAbleIn (program_value (arc_value t.program)) t.from
-        × Agrees (program_value (arc_value t.program)).image.code t.places.items };
+        (t.work.value.to ≡ t.work.value.from)
+        × IsAbleIn (program_value (arc_value t.program)) t.work.value.from
+        × (length t.work.value.marks.items ≡ length (program_value (arc_value t.program)).image.code) };
 }
 
 impl Turn {
@@ -86,12 +95,15 @@ impl Turn {
           cpu = cpu.now;
         }) }
     {
+        let work = Work {
+            from: cpu.copy(alloc)?,
+            to: cpu.copy(alloc)?,
+            marks: vec![in alloc; false; program.image().len()]?,
+        };
         Ok(Turn {
             pid,
             program: Arc::try_clone(program)?,
-            from: cpu.copy(alloc)?,
-            to: cpu.copy(alloc)?,
-            places: empty_places(alloc, program.image())?,
+            work: Box::new(alloc, work)?,
         })
     }
 
@@ -106,62 +118,54 @@ impl Turn {
     pub fn cpu(&self) -> &Cpu
         ensures { result.now ≡ self.now.cpu }
     {
-        &self.from
+        &self.work.from
     }
-}
-
-/// A place for each instruction of the image, and none of them filled. Only memory can be refused.
-fn empty_places(alloc: Global, image: &Image) -> Result<Vec<Option<Instr>>, AllocError>
-    ensures { IfOk result (λ places. Agrees image.now.code places.items) }
-{
-    let mut places = Vec::new(alloc);
-    places.resize(image.len(), None)?;
-    Ok(places)
 }
 
 /// What a process did by itself: how many local instructions in a row, from which Cpu to which, and
 /// where they ended.
 ///
-/// In place of its program it has the version of that, the instructions that were done, and the one
-/// that stands next. Only `burst` makes one, so all this is so in each program of the same version and
-/// length with the same instructions in these places.
+/// Of its program count the version, the instructions that were done, and the one that stands next. Only
+/// `burst` makes one, so all this is so in each program of the same version and length with the same
+/// instructions in these places.
 ///
 /// Source: own profile.
 #[derive(Drop)]
 pub struct Done {
     pid: Pid,
-    from: Cpu,
-    to: Cpu,
+    program: Arc<Program>,
     ran: u32,
     stop: Stop,
-    version: Version,
-    places: Vec<Option<Instr>>,
+    work: Box<Work>,
 }
 
 impl Model for Done {
-    ghost use Rattle.zl_interp.specs.Bursts.{CanStand, Done as DoneValue, IsBurst};
+    ghost use Rattle.std.specs.Prelude.{◌≡◌, length};
+    ghost use Rattle.std.specs.Arc.{arc_value};
+    ghost use Rattle.zl_interp.specs.Bursts.{Done as DoneValue, IsBurst, marked};
+    ghost use Rattle.zl_interp.specs.Program.{program_value};
 
     ghost Value = { DoneValue };
 
     ghost view = { λ d. record {
       pid = d.pid;
-      from = d.from;
-      to = d.to;
+      from = d.work.value.from;
+      to = d.work.value.to;
       ran = d.ran;
       stop = d.stop;
-      version = d.version;
-      places = d.places.items;
+      version = (program_value (arc_value d.program)).image.version;
+      places = marked (program_value (arc_value d.program)).image.code d.work.value.marks.items;
     } };
 
     ghost invariant = { λ d. IsBurst (record {
       pid = d.pid;
-      from = d.from;
-      to = d.to;
+      from = d.work.value.from;
+      to = d.work.value.to;
       ran = d.ran;
       stop = d.stop;
-      version = d.version;
-      places = d.places.items;
-    }) × CanStand d.version d.places.items };
+      version = (program_value (arc_value d.program)).image.version;
+      places = marked (program_value (arc_value d.program)).image.code d.work.value.marks.items;
+    }) × (length d.work.value.marks.items ≡ length (program_value (arc_value d.program)).image.code) };
 }
 
 impl Done {
@@ -176,7 +180,7 @@ impl Done {
     pub fn from(&self) -> &Cpu
         ensures { result.now ≡ self.now.from }
     {
-        &self.from
+        &self.work.from
     }
 
     /// How many local instructions it did; they lead from the first Cpu to the second.
@@ -194,27 +198,37 @@ impl Done {
         self.stop
     }
 
-    /// A place for each instruction of its program, filled where that was done or stands next.
-    pub fn places(&self) -> &[Option<Instr>]
-        ensures { result.now ≡ self.now.places }
+    /// Whether the instruction of this number was done or stands next.
+    pub fn is_filled(&self, place: usize) -> bool
+        ensures { result ≡ is_filled self.now.places place }
     {
-        &self.places
+        is_marked(&self.work.marks, place)
     }
 
-    /// Whether the image has the version of its program and as many instructions as there are places,
-    /// and in each that is filled the same one. It takes no memory.
+    /// Whether the image has the version of its program and as many instructions as that, and the same
+    /// one in each place that is filled. It takes no memory.
     pub fn agrees(&self, image: &Image) -> bool
         ensures { IsTrue result ↔ Matches image.now self.now }
     {
-        are_same_versions(image.version(), self.version) && has_bytes(image.code(), &self.places)
+        let own = self.program.image();
+        are_same_versions(image.version(), own.version())
+            && has_marked(image.code(), own.code(), &self.work.marks)
     }
 
     /// The Cpu with which it ended.
     pub fn into_cpu(self) -> Cpu
         ensures { result ≡ self.to }
     {
-        self.to
+        let Work { to, .. } = Box::into_inner(self.work);
+        to
     }
+}
+
+/// Whether there is a place with this number, and it is marked.
+fn is_marked(marks: &[bool], place: usize) -> bool
+    ensures { result ≡ slice_index_or marks.now place false }
+{
+    place < marks.len() && marks[place]
 }
 
 fn are_same_versions(one: Version, other: Version) -> bool
@@ -223,35 +237,75 @@ fn are_same_versions(one: Version, other: Version) -> bool
     one == other
 }
 
-/// Whether there are as many instructions as places, and in each that is filled one with these bytes.
+/// How many marks are looked at in one go.
+const BLOCK: usize = 64;
+
+/// Whether both have as many instructions, and in each marked place one with the same bytes.
 #[inline(never)]
-fn has_bytes(code: &[Instr], places: &[Option<Instr>]) -> bool
-    ensures { IsTrue result ↔ HasBytes code.now places.now }
+fn has_marked(code: &[Instr], own: &[Instr], marks: &[bool]) -> bool
+    requires { length marks.now ≡ length own.now }
+    ensures { IsTrue result ↔ HasBytes code.now (marked own.now marks.now) }
 {
-    if code.len() != places.len() {
+    if code.len() != own.len() {
         return false;
     }
-    for n in 0..places.len() {
-        if !is_in_place(&code[n], &places[n]) {
+    let blocks = marks.len() / BLOCK;
+    for block in 0..blocks {
+        if !has_block(code, own, marks, block * BLOCK) {
+            return false;
+        }
+    }
+    has_range(code, own, marks, blocks * BLOCK, marks.len())
+}
+
+/// Whether each marked place of the block that begins here has the same bytes.
+fn has_block(code: &[Instr], own: &[Instr], marks: &[bool], start: usize) -> bool
+    requires long { (length marks.now ≡ length own.now) × (length code.now ≡ length own.now) }
+    requires within { start + 64 ≤ length own.now }
+    ensures { IsTrue result ↔ IsSpelledFrom code.now (marked own.now marks.now) start (start + 64) }
+{
+    let end = start + BLOCK;
+    !is_any_marked(marks, start, end) || has_range(code, own, marks, start, end)
+}
+
+/// Whether each marked place from the first of these on has the same bytes, up to the second.
+fn has_range(code: &[Instr], own: &[Instr], marks: &[bool], start: usize, end: usize) -> bool
+    requires long { (length marks.now ≡ length own.now) × (length code.now ≡ length own.now) }
+    requires within { (start ≤ end) × (end ≤ length own.now) }
+    ensures { IsTrue result ↔ IsSpelledFrom code.now (marked own.now marks.now) start end }
+{
+    for n in start..end {
+        if !is_in_place(code, own, marks, n) {
             return false;
         }
     }
     true
 }
 
-/// Whether the place isn't filled, or has the bytes of the instruction.
+/// Whether a place from the first of these on is marked, up to the second. It tests once, at the end.
 #[inline(always)]
-fn is_in_place(instr: &Instr, place: &Option<Instr>) -> bool
-    ensures { IsTrue result ↔ ((x : InstrValue) → place.now ≡ Some x
-        → instr_bytes instr.now ≡ instr_bytes x) }
+fn is_any_marked(marks: &[bool], start: usize, end: usize) -> bool
+    requires { (start ≤ end) × (end ≤ length marks.now) }
+    ensures { result ≡ false → AreUnmarked marks.now start end }
 {
-    match place {
-        Some(filled) => are_spelled_alike(instr, filled),
-        None => true,
+    let mut any = false;
+    for n in start..end {
+        any |= marks[n];
     }
+    any
 }
 
-/// Whether both have the same bytes. It stands apart, as most places of a long program are empty.
+/// Whether the place isn't marked, or has the bytes of the instruction.
+#[inline(always)]
+fn is_in_place(code: &[Instr], own: &[Instr], marks: &[bool], n: usize) -> bool
+    requires long { (length marks.now ≡ length own.now) × (length code.now ≡ length own.now) }
+    requires within { n < length own.now }
+    ensures { IsTrue result ↔ IsSpelledAt code.now (marked own.now marks.now) n }
+{
+    !marks[n] || are_spelled_alike(&code[n], &own[n])
+}
+
+/// Whether both have the same bytes. It stands apart, as most places of a long program aren't marked.
 #[inline(never)]
 fn are_spelled_alike(one: &Instr, other: &Instr) -> bool
     ensures { IsTrue result ↔ instr_bytes one.now ≡ instr_bytes other.now }
@@ -276,51 +330,65 @@ pub fn burst(turn: Turn, most: u32) -> Done
     let Turn {
         pid,
         program,
-        from,
-        mut to,
-        mut places,
+        mut work,
     } = turn;
-    let ran = run(&program, &mut to, &mut places, most);
-    let stop = stop_of(&program, &to);
-    // Its clause has that instructions of an image are in their ranges.
-    program.image().len();
-    let version = program.image().version();
+    let ran = go(&program, &mut work, most);
+    let stop = stop_of(&program, &work.to);
     Done {
         pid,
-        from,
-        to,
+        program,
         ran,
         stop,
-        version,
-        places,
+        work,
     }
 }
 
+/// Lets the second Cpu go on.
+fn go(program: &Program, work: &mut Work, most: u32) -> u32
+    requires begins { work.old.to ≡ work.old.from }
+    requires able { IsAbleIn (program_value program.now) work.old.from }
+    requires long { length work.old.marks.items ≡ length (program_value program.now).image.code }
+    ensures from { work.new.from ≡ work.old.from }
+    ensures long { length work.new.marks.items ≡ length (program_value program.now).image.code }
+    ensures leads { Leads (marked (program_value program.now).image.code work.new.marks.items)
+        result work.new.from work.new.to }
+    ensures next { (i : ImageValue)
+        → Agrees i.code (marked (program_value program.now).image.code work.new.marks.items)
+        → next_at i work.new.to ≡ next_at (program_value program.now).image work.new.to }
+    ensures within { result ≤ most }
+    ensures whole { stop_at (next_at (program_value program.now).image work.new.to) ≡ More
+        → result ≡ most }
+{
+    run(program, &mut work.to, &mut work.marks, most)
+}
+
 /// Does local instructions of the program in a row, with tests just where it wasn't checked.
-fn run(program: &Program, cpu: &mut Cpu, places: &mut [Option<Instr>], most: u32) -> u32
+fn run(program: &Program, cpu: &mut Cpu, marks: &mut [bool], most: u32) -> u32
     requires able { IsAbleIn (program_value program.now) cpu.old }
-    requires agrees { Agrees (program_value program.now).image.code places.old }
-    ensures leads { Leads (program_value program.now).image.code places.new result cpu.old cpu.new }
-    ensures next { (i : ImageValue) → Agrees i.code places.new
+    requires long { length marks.old ≡ length (program_value program.now).image.code }
+    ensures leads { Leads (marked (program_value program.now).image.code marks.new)
+        result cpu.old cpu.new }
+    ensures next { (i : ImageValue)
+        → Agrees i.code (marked (program_value program.now).image.code marks.new)
         → next_at i cpu.new ≡ next_at (program_value program.now).image cpu.new }
     ensures within { result ≤ most }
     ensures whole { stop_at (next_at (program_value program.now).image cpu.new) ≡ More
         → result ≡ most }
 {
     if program.is_checked() {
-        run_on_sure(program.image(), cpu, places, most)
+        run_on_sure(program.image(), cpu, marks, most)
     } else {
-        run_on(program.image(), cpu, places, most)
+        run_on(program.image(), cpu, marks, most)
     }
 }
 
 /// Does local instructions in a row, at most so many, as long as one stands next that can be done. The
-/// places of these are filled, and of the one that stands next then.
+/// places of these are marked, and of the one that stands next then.
 #[tactic(auto, unfolding(zl_code::specs::Steps::next_at))]
-fn run_on(image: &Image, cpu: &mut Cpu, places: &mut [Option<Instr>], most: u32) -> u32
-    requires { Agrees image.now.code places.old }
-    ensures leads { Leads image.now.code places.new result cpu.old cpu.new }
-    ensures next { (i : ImageValue) → Agrees i.code places.new
+fn run_on(image: &Image, cpu: &mut Cpu, marks: &mut [bool], most: u32) -> u32
+    requires { length marks.old ≡ length image.now.code }
+    ensures leads { Leads (marked image.now.code marks.new) result cpu.old cpu.new }
+    ensures next { (i : ImageValue) → Agrees i.code (marked image.now.code marks.new)
         → next_at i cpu.new ≡ next_at image.now cpu.new }
     ensures within { result ≤ most }
     ensures whole { stop_at (next_at image.now cpu.new) ≡ More → result ≡ most }
@@ -328,14 +396,14 @@ fn run_on(image: &Image, cpu: &mut Cpu, places: &mut [Option<Instr>], most: u32)
     let code = image.code();
     let mut counter = cpu.counter;
     for ran in 0..most {
-        fill(places, code, counter);
+        mark(marks, code, counter);
         let Some(next) = step_in(code, cpu, counter) else {
             cpu.counter = counter;
             return ran;
         };
         counter = next;
     }
-    fill(places, code, counter);
+    mark(marks, code, counter);
     cpu.counter = counter;
     most
 }
@@ -343,11 +411,11 @@ fn run_on(image: &Image, cpu: &mut Cpu, places: &mut [Option<Instr>], most: u32)
 /// Does the same for a Cpu that is as a typing of the image says: until a call stands next, each
 /// instruction can be done, so that isn't tested.
 #[tactic(auto, unfolding(zl_code::specs::Steps::next_at))]
-fn run_on_sure(image: &Image, cpu: &mut Cpu, places: &mut [Option<Instr>], most: u32) -> u32
+fn run_on_sure(image: &Image, cpu: &mut Cpu, marks: &mut [bool], most: u32) -> u32
     requires able { IsAble image.now cpu.old }
-    requires agrees { Agrees image.now.code places.old }
-    ensures leads { Leads image.now.code places.new result cpu.old cpu.new }
-    ensures next { (i : ImageValue) → Agrees i.code places.new
+    requires long { length marks.old ≡ length image.now.code }
+    ensures leads { Leads (marked image.now.code marks.new) result cpu.old cpu.new }
+    ensures next { (i : ImageValue) → Agrees i.code (marked image.now.code marks.new)
         → next_at i cpu.new ≡ next_at image.now cpu.new }
     ensures within { result ≤ most }
     ensures whole { stop_at (next_at image.now cpu.new) ≡ More → result ≡ most }
@@ -355,27 +423,27 @@ fn run_on_sure(image: &Image, cpu: &mut Cpu, places: &mut [Option<Instr>], most:
     let code = image.code();
     let mut counter = cpu.counter;
     for ran in 0..most {
-        fill(places, code, counter);
+        mark(marks, code, counter);
         let Some(next) = step_sure(code, cpu, counter) else {
             cpu.counter = counter;
             return ran;
         };
         counter = next;
     }
-    fill(places, code, counter);
+    mark(marks, code, counter);
     cpu.counter = counter;
     most
 }
 
-/// Fills the place of the instruction with this number, if there is one.
+/// Marks the place of the instruction with this number, if there is one.
 #[inline(always)]
-fn fill(places: &mut [Option<Instr>], code: &[Instr], counter: usize)
-    requires { Agrees code.now places.old }
-    ensures { places.new ≡ slice_set places.old counter (slice_get code.now counter) }
+fn mark(marks: &mut [bool], code: &[Instr], counter: usize)
+    requires { length marks.old ≡ length code.now }
+    ensures long { length marks.new ≡ length code.now }
+    ensures filled { marked code.now marks.new
+        ≡ slice_set (marked code.now marks.old) counter (slice_get code.now counter) }
 {
     if counter < code.len() {
-        if places[counter].is_none() {
-            places[counter] = Some(code[counter]);
-        }
+        marks[counter] = true;
     }
 }

@@ -69,7 +69,7 @@ impl Cpu {
         Ok(Cpu {
             counter: self.counter,
             registers: self.registers,
-            memory: self.memory.to_vec(alloc)?,
+            memory: copied(alloc, &self.memory)?,
             slots: copied_slots(alloc, &self.slots)?,
             counters: self.counters.copy(),
         })
@@ -204,10 +204,19 @@ fn copied_slots(alloc: Global, arrays: &[Vec<u64>]) -> Result<Vec<Vec<u64>>, All
 {
     let mut slots = Vec::with_capacity(alloc, arrays.len())?;
     for array in arrays {
-        let places = array.to_vec(alloc)?;
+        let places = copied(alloc, array)?;
         slots.push(places)?;
     }
     Ok(slots)
+}
+
+/// The same items once more, in one block.
+fn copied<T: Copy>(alloc: Global, items: &[T]) -> Result<Vec<T>, AllocError>
+    ensures { IfOk result (λ copy. copy.items ≡ items.now) }
+{
+    let mut copy = Vec::with_capacity(alloc, items.len())?;
+    copy.extend_from_slice(items)?;
+    Ok(copy)
 }
 
 /// Whether both have the same in each place of each slot array.

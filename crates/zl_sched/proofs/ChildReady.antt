@@ -1,10 +1,9 @@
 -- A process whose start is answered OK wasn't ready, and is.
-use Rattle.zl_sched.proofs.Common.{Bool, Calls, Library, List, None, Ok, Outcome, Process, Ready, Request, Site, Some, Status, World, [], after_ok, answer_if}
+use Rattle.zl_sched.proofs.Common.{Bool, Calls, Library, List, None, Outcome, Process, Ready, Request, Site, Some, Status, World, [], after_ok, answer_if}
 use Rattle.zl_sched.proofs.Common.{ap, call_ends, child_of, effect, entry_at, eq-eqb, examined, false, false≢true, first_some, get, get-update, gives_ok}
 use Rattle.zl_sched.proofs.Common.{handle_operands, is_created, is_ok, is_process, is_ready, listed, may_want, new_handles, none-some, not, object_at}
 use Rattle.zl_sched.proofs.Common.{on_process, operand, option_to_list, process_start, program_of, refl, refusal, row_of, same_Some, started_with, subst}
 use Rattle.zl_sched.proofs.Common.{sym, taken, taken_handles, true, true≢false, with_effect, ℕ, ◌∙◌, ◌∷◌, ◌≡◌}
-use Rattle.zl_rights.specs.declared.policy.Action.TheVariants as action
 use Rattle.zl_rights.specs.declared.status.Status.TheVariants as status
 use Rattle.zl_code.specs.declared.history.Outcome.TheVariants as outcome
 use Rattle.zl_code.specs.Jobs.{misfits}

@@ -3,12 +3,18 @@ use Rattle.zl_sched.proofs.Common.{Bool, IsSound, IsTrue, Library, List, Listed,
 use Rattle.zl_sched.proofs.Common.{false, false≢true, get, if◌then◌else◌, inl, inr, is_in, is_process, is_ready, is_ready_or_over, length, length-append, lives}
 use Rattle.zl_sched.proofs.Common.{nat_tests, not, on_process, others_of, queued_after, refl, subst, suc, sym, times-other, times_in, true, ℕ, ◌&&◌, ◌++◌, ◌+◌}
 use Rattle.zl_sched.proofs.Common.{◌==◌, ◌∙◌, ◌∷◌, ◌≡◌, ◌≤◌}
+use Rattle.zl_sched.proofs.Common.{drop, get_or, ◌<◌}
 use Rattle.zl_sched.proofs.Counted.{times-append}
 use Rattle.zl_sched.proofs.Marked.{some_mark, no_mark, counted_mark, listed_but, listed_by, self_unmarked, others_marked, fewer_marks, left_marked}
 use Rattle.zl_sched.proofs.Marked.{shorter, times_self, times_none}
 use Rattle.zl_sched.proofs.MarksKept.{marked_stays, marked_known, over_not_ready, state_kept, ready_passes}
 use Rattle.zl_sched.proofs.Queued.{Before, queued_ready, queued_room}
 use Rattle.zl_verify.proofs.OwnTable.{other_way}
+
+-- a list is its first and what is behind that
+pub parted : (xs rest : List ℕ) (x d : ℕ) → 0 < length xs → x ≡ get_or xs 0 d → rest ≡ drop 1 xs → xs ≡ x ∷ rest
+parted [] rest x d some of_x of_rest = absurd (omega (arith, some))
+parted (y ∷ ys) rest x d some of_x of_rest = λ i. sym of_x i ∷ sym of_rest i
 
 -- ---- taken, forgotten, put back
 

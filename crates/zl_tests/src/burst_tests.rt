@@ -133,18 +133,11 @@ fn a_burst_ends_where_its_process_is_stuck(rt: HostRuntime) -> Result<(), Fail> 
 /// Which of the first four places are filled.
 fn filled(done: &Done) -> [bool; 4] {
     [
-        is_filled(done, 0),
-        is_filled(done, 1),
-        is_filled(done, 2),
-        is_filled(done, 3),
+        done.is_filled(0),
+        done.is_filled(1),
+        done.is_filled(2),
+        done.is_filled(3),
     ]
-}
-
-fn is_filled(done: &Done, place: usize) -> bool {
-    match done.places().get(place) {
-        Some(filled) => filled.is_some(),
-        None => false,
-    }
 }
 
 /// Which are filled once a process that starts did so many instructions of COUNTS.
@@ -206,15 +199,15 @@ fn did_bursts(alloc: Global, program: &Arc<Program>, count: u32) -> Result<Done,
 fn short_bursts_go_on_in_the_largest_program(rt: HostRuntime) -> Result<(), Fail> {
     let program = raw(rt.alloc(), largest(rt.alloc())?)?;
     let first = did_bursts(rt.alloc(), &program, 1)?;
-    assert_eq!(rt; (first.ran(), first.places().len()), (9, 4096));
+    assert_eq!(rt; (first.ran(), first.is_filled(4095)), (9, false));
     assert_eq!(rt;
-        (filled(&first), is_filled(&first, 4)),
+        (filled(&first), first.is_filled(4)),
         ([true, true, true, true], true)
     );
     let last = did_bursts(rt.alloc(), &program, 20)?;
     assert_eq!(rt; (last.ran(), last.stop()), (9, Stop::More));
     assert_eq!(rt;
-        (filled(&last), is_filled(&last, 4)),
+        (filled(&last), last.is_filled(4)),
         ([false, true, true, true], true)
     );
     assert_eq!(rt; last.into_cpu().registers().get(3), Some(&45));

@@ -1,7 +1,7 @@
 -- What a place that is filled leaves of the code that agrees.
-use Rattle.zl_interp.proofs.Common.{Agrees, Instr, List, None, Option, Some, [], ap, arith, false≢true, get_or, inl, inr, is_some, length, length-set}
-use Rattle.zl_interp.proofs.Common.{none-some, refl, same_Some, slice_get, slice_set, subst, suc, sym, true, zero, ℕ, ◌<◌, ◌∙◌, ◌∷◌, ◌≡◌, ◌≢◌, ◌≤◌, ◌⊎◌}
-use Rattle.std.proofs.lemmas.Option.{slice_get-get_or, slice_get_past, slice_get_within}
+use Rattle.zl_interp.proofs.Common.{Agrees, Instr, List, None, Option, Some, ap, arith, inl, inr, length, length-set}
+use Rattle.zl_interp.proofs.Common.{refl, slice_get, slice_set, subst, sym, ℕ, ◌<◌, ◌∙◌, ◌≡◌, ◌≢◌, ◌≤◌, ◌⊎◌}
+use Rattle.std.proofs.lemmas.Option.{slice_get_past, slice_get_within}
 use Rattle.zl_verify.proofs.Places.{below_or_not, equal_or_not, get_put, get_put_other, nowhere}
 
 module _ (code : List Instr) (places : List (Option Instr)) (n : ℕ) (agrees : Agrees code places) where
@@ -16,22 +16,6 @@ module _ (code : List Instr) (places : List (Option Instr)) (n : ℕ) (agrees : 
   here x at =
       let within : n < length code = slice_get_within code n x at in
       get_put places n (slice_get code n) (omega (arith, within, agrees.long)) ∙ ap Some at
-
-  -- all that is filled then is of the code
-  of_code : (m : ℕ) (x : Instr) → slice_get after m ≡ Some (Some x) → slice_get code m ≡ Some x
-  of_code m x at = by (equal_or_not n m) (below_or_not n (length places))
-    where
-      by : (n ≡ m) ⊎ (n ≢ m) → (n < length places) ⊎ (length places ≤ n) → slice_get code m ≡ Some x
-      by (inl e) (inl within) =
-          same_Some (slice_get code m) (Some x)
-          (sym (ap (λ k. Some (slice_get code k)) e) ∙ (sym (get_put places n (slice_get code n) within) ∙ (ap (slice_get after) e ∙ at)))
-      by (inl e) (inr past) =
-          let nothing : slice_get after m ≡ None = slice_get_past after m (subst (λ k. length after ≤ k) e (omega (arith, past, long_after, agrees.long))) in
-          absurd (none-some (Some x) (sym nothing ∙ at))
-      by (inr apart) there = agrees.filled m x (sym (get_put_other places n m (slice_get code n) apart) ∙ at)
-
-  pub filled_agrees : Agrees code after
-  filled_agrees = record { long = sym long_after; filled = of_code }
 
   module _ (other : List Instr) (agrees_then : Agrees other after) where
     -- what agrees then did so before

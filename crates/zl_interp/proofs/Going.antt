@@ -1,6 +1,7 @@
 -- One instruction more in the code of an image, by a Cpu that is as a typing of the image says, and for all images that agree with what was filled.
-use Rattle.zl_interp.proofs.Common.{Agrees, Bool, Cpu, Done, Image, Instr, IsAble, IsBurst, IsStuck, IsTrue, Leads, List, Moves, Option, Some, add-one, after_locals}
-use Rattle.zl_interp.proofs.Common.{ap, is_in_range, marked, moved_to, next_at, next_of, slice_get, slice_set, stop_at, subst, sym, then_moved, ℕ, ◌+◌, ◌∙◌, ◌≡◌, ◌≢◌}
+use Rattle.zl_interp.proofs.Common.{Agrees, Bool, Cpu, Done, Image, Instr, IsAble, IsBurst, IsStuck, IsTrue, Leads, List, Moves, Option, Some}
+use Rattle.zl_interp.proofs.Common.{add-one, after_locals, ap, is_in_range, marked, moved_to, next_at, next_of, slice_get, slice_set, stop_at, subst}
+use Rattle.zl_interp.proofs.Common.{sym, then_moved, ℕ, ◌+◌, ◌∙◌, ◌≡◌, ◌≢◌}
 use Rattle.zl_verify.proofs.LocalSteps.{able_goes, able_still}
 use Rattle.zl_interp.proofs.Filling.{filled_alike, filled_before}
 use Rattle.zl_interp.proofs.Marked.{marked_agrees}

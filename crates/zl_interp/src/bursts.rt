@@ -32,8 +32,8 @@ pub enum Stop {
     Stuck,
 }
 
-/// What a turn carries to what was done: the Cpu with which it begins, the one that goes on, and a mark
-/// for each instruction of the program.
+/// What a turn carries to what was done: the Cpu with which it begins, the one that goes on, and a
+/// mark for each instruction of the program.
 ///
 /// It is large, so it lies in one place, in which a burst works.
 #[derive(Drop)]
@@ -45,8 +45,8 @@ struct Work {
 
 /// A process that may go on by itself: its koid, its program, and its Cpu as it stands.
 ///
-/// Where its program was checked, the Cpu is as a typing of it says. There is room for a second Cpu,
-/// and a mark for each instruction of the program, so that a burst takes no memory.
+/// Where its program was checked, the Cpu is as a typing of it says. There is room for a second
+/// Cpu, and a mark for each instruction of the program, so that a burst takes no memory.
 ///
 /// Source: own profile.
 #[derive(Drop)]
@@ -59,7 +59,7 @@ pub struct Turn {
 impl Model for Turn {
     ghost use Rattle.std.specs.Prelude.{◌≡◌, length};
     ghost use Rattle.std.specs.Arc.{arc_value};
-    ghost use Rattle.zl_interp.specs.Bursts.{Agrees, Turn as TurnValue, marked};
+    ghost use Rattle.zl_interp.specs.Bursts.{Turn as TurnValue};
     ghost use Rattle.zl_interp.specs.Program.{program_value};
 
     ghost Value = { TurnValue };
@@ -75,7 +75,8 @@ impl Model for Turn {
     ghost invariant = { λ t.
         (t.work.value.to ≡ t.work.value.from)
         × IsAbleIn (program_value (arc_value t.program)) t.work.value.from
-        × (length t.work.value.marks.items ≡ length (program_value (arc_value t.program)).image.code) };
+        × (length t.work.value.marks.items
+        ≡ length (program_value (arc_value t.program)).image.code) };
 }
 
 impl Turn {
@@ -125,9 +126,9 @@ impl Turn {
 /// What a process did by itself: how many local instructions in a row, from which Cpu to which, and
 /// where they ended.
 ///
-/// Of its program count the version, the instructions that were done, and the one that stands next. Only
-/// `burst` makes one, so all this is so in each program of the same version and length with the same
-/// instructions in these places.
+/// Of its program count the version, the instructions that were done, and the one that stands
+/// next. Only `burst` makes one, so all this is so in each program of the same version and length
+/// with the same instructions in these places.
 ///
 /// Source: own profile.
 #[derive(Drop)]
@@ -165,7 +166,8 @@ impl Model for Done {
       stop = d.stop;
       version = (program_value (arc_value d.program)).image.version;
       places = marked (program_value (arc_value d.program)).image.code d.work.value.marks.items;
-    }) × (length d.work.value.marks.items ≡ length (program_value (arc_value d.program)).image.code) };
+    }) × (length d.work.value.marks.items
+        ≡ length (program_value (arc_value d.program)).image.code) };
 }
 
 impl Done {
@@ -205,8 +207,8 @@ impl Done {
         is_marked(&self.work.marks, place)
     }
 
-    /// Whether the image has the version of its program and as many instructions as that, and the same
-    /// one in each place that is filled. It takes no memory.
+    /// Whether the image has the version of its program and as many instructions as that, and the
+    /// same one in each place that is filled. It takes no memory.
     pub fn agrees(&self, image: &Image) -> bool
         ensures { IsTrue result ↔ Matches image.now self.now }
     {
@@ -282,7 +284,8 @@ fn has_range(code: &[Instr], own: &[Instr], marks: &[bool], start: usize, end: u
     true
 }
 
-/// Whether a place from the first of these on is marked, up to the second. It tests once, at the end.
+/// Whether a place from the first of these on is marked, up to the second. It tests once, at the
+/// end.
 #[inline(always)]
 fn is_any_marked(marks: &[bool], start: usize, end: usize) -> bool
     requires { (start ≤ end) × (end ≤ length marks.now) }
@@ -305,7 +308,8 @@ fn is_in_place(code: &[Instr], own: &[Instr], marks: &[bool], n: usize) -> bool
     !marks[n] || are_spelled_alike(&code[n], &own[n])
 }
 
-/// Whether both have the same bytes. It stands apart, as most places of a long program aren't marked.
+/// Whether both have the same bytes. It stands apart, as most places of a long program aren't
+/// marked.
 #[inline(never)]
 fn are_spelled_alike(one: &Instr, other: &Instr) -> bool
     ensures { IsTrue result ↔ instr_bytes one.now ≡ instr_bytes other.now }

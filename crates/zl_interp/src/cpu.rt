@@ -62,7 +62,9 @@ impl Cpu {
         })
     }
 
-    /// Another Cpu like this one. Only memory can be refused.
+    /// Another Cpu like this one. Only memory can be refused. In line it is made where it goes, and not
+    /// moved there.
+    #[inline(always)]
     pub fn copy(&self, alloc: Global) -> Result<Cpu, AllocError>
         ensures { IfOk result (λ cpu. cpu ≡ self.now) }
     {

@@ -6,7 +6,8 @@ pub loop-ran-preserved : goal.loop-ran-preserved
 loop-ran-preserved c = (
   c.mark.ensures.long ∙ ap length c.code-code.ensures.value,
   leads_on c.args.image.now c.code-code.result.now c.code-code.ensures.value c.loop-ran.marks c.mark.new.marks c.loop-ran.ran c.args.cpu.now
-      (goes_to c.loop-ran.cpu c.loop-ran.counter) c.loop-ran.invariant.1 c.mark.ensures.filled (goes_to c.step_in.new.cpu c.in-Some.next) c.in-Some.ensures.moves,
+      (goes_to c.loop-ran.cpu c.loop-ran.counter) c.loop-ran.invariant.1 c.mark.ensures.filled
+      (goes_to c.step_in.new.cpu c.in-Some.next) c.in-Some.ensures.moves,
 )
 
 pub returns-in_default-clause-leads : goal.returns-in_default-clause-leads

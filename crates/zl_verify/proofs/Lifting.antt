@@ -1,7 +1,8 @@
 -- States that lie below those of every typing: one register of such a state rises, edges lead on, and a search takes it back.
 use Rattle.zl_verify.proofs.Common.{ANY, AbsVal, AllFine, AllLead, Bool, Cause, Edge, Has, IfOk, IfSome, Image, IsAbove, IsFine, IsState, IsTrue, IsTyping}
 use Rattle.zl_verify.proofs.Common.{KindOf, List, None, Ok, Option, Result, RightsOf, RuleHolds, Some, State, Stretches, Word, [], all_below, ap, arith, at}
-use Rattle.zl_verify.proofs.Common.{both, bounds_of, can_be_named, eqb, false, if◌then◌else◌, inl, inr, is_in_range, is_named_well, length, ltb, map, nat_tests, not}
+use Rattle.zl_verify.proofs.Common.{both, bounds_of, can_be_named, eqb, false, if◌then◌else◌, inl, inr, is_in_range, is_named_well, length}
+use Rattle.zl_verify.proofs.Common.{ltb, map, nat_tests, not}
 use Rattle.zl_verify.proofs.Common.{none-some, option_map, raised, refl, replicate, rule, rule_fine, same_Some, slice_get, slice_get-get_or, slice_index_or}
 use Rattle.zl_verify.proofs.Common.{slice_set, start_of, stretch, subst, suc, sym, true, untagged, value_at, with_value, zero, ℕ, ◌++◌, ◌-◌, ◌<◌, ◌∙◌, ◌∷◌, ◌≡◌}
 use Rattle.zl_verify.proofs.Common.{◌≢◌, ◌⊎◌}

@@ -1,5 +1,5 @@
-use Rattle.zl_command.proofs.Common.{AsksFor, HasValues, ap, commands, fault_of, inl, inr, is_simple, is_simple_and_free, map, refl, subcommand_of, subst, sym, takes}
-use Rattle.zl_command.proofs.Common.{◌∙◌}
+use Rattle.zl_command.proofs.Common.{HasValues, ap, commands, fault_of, inl, inr, is_simple, is_simple_and_free, map, refl, subcommand_of, subst, sym, takes}
+use Rattle.zl_command.proofs.Common.{AsksFor, ◌∙◌}
 use Rattle.clap.specs.Kinds.{HasKind}
 use Rattle.zl_command.proofs.CommandLine.{found_values, gives_text, has_fault, may_ask, no_task, none_found, not_taken}
 use Rattle.zl_command.proofs.command.parse.Goals as goal

@@ -187,8 +187,6 @@ impl CallName {
     }
 
     /// The row of the call.
-    // Inlined, so that a caller that wants one column copies no more than it.
-    #[inline(always)]
     pub fn row(self) -> Row
         ensures row { row_value result ≡ call_row self }
         ensures gives { result.columns.now.gives ≡ given self }

@@ -5,7 +5,7 @@ ghost use Rattle.zl_code.specs.Same.{DeclaresSame, HasSameHeader, HasSameNeeds, 
 ghost use Rattle.zl_code.specs.Spells.{instr_bytes};
 
 use crate::image::{Image, SlotArray, Start};
-use crate::instr::Instr;
+use crate::instr::{Instr, LocalInstr};
 use zl_rights::Condition;
 
 impl Image {
@@ -70,15 +70,63 @@ fn is_same_code(one: &[Instr], other: &[Instr]) -> bool
         return false;
     }
     for n in 0..one.len() {
-        if !has_same_bytes(&one[n], &other[n]) {
+        if !one[n].is_spelled_like(&other[n]) {
             return false;
         }
     }
     true
 }
 
-fn has_same_bytes(one: &Instr, other: &Instr) -> bool
-    ensures { IsTrue result ↔ instr_bytes one.now ≡ instr_bytes other.now }
+impl Instr {
+    /// Whether the same 16 bytes spell both.
+    // Nearly all that are compared are one, which is seen without making bytes.
+    pub fn is_spelled_like(&self, other: &Instr) -> bool
+        ensures { IsTrue result ↔ instr_bytes self.now ≡ instr_bytes other.now }
+    {
+        are_same_locals(self, other) || self.to_bytes() == other.to_bytes()
+    }
+}
+
+/// Whether both are the same local instruction.
+fn are_same_locals(one: &Instr, other: &Instr) -> bool
+    ensures { IsTrue result → one.now ≡ other.now }
 {
-    one.to_bytes() == other.to_bytes()
+    match (one, other) {
+        (Instr::Local(one), Instr::Local(other)) => has_same_fields(one, other),
+        _ => false,
+    }
+}
+
+// For each local instruction a match on the other.
+macro_rules! same_fields {
+    ($one:ident $other:ident $($variant:ident($($field:ident $same:ident),+))+) => {
+        match $one {
+            $(LocalInstr::$variant { $($field),+ } => match $other {
+                LocalInstr::$variant { $($field: $same),+ } => $($field == $same)&&+,
+                _ => false,
+            },)+
+        }
+    };
+}
+
+/// Whether both are one local instruction, with the same in each field.
+fn has_same_fields(one: &LocalInstr, other: &LocalInstr) -> bool
+    ensures { IsTrue result → one.now ≡ other.now }
+{
+    same_fields! {
+        one other
+        Const(destination d, number n) Move(destination d, source s)
+        Add(destination d, left l, right r) AddNumber(destination d, left l, number n)
+        Subtract(destination d, left l, right r) And(destination d, left l, right r)
+        Or(destination d, left l, right r) Xor(destination d, left l, right r)
+        ShiftLeft(destination d, source s, places p) ShiftRight(destination d, source s, places p)
+        Take(destination d, source s) Swap(register r, place p, array a)
+        LoadByte(destination d, base b, offset o) LoadWord(destination d, base b, offset o)
+        StoreByte(base b, source s, offset o) StoreWord(base b, source s, offset o)
+        Jump(target t) JumpZero(register r, target t) JumpNotZero(register r, target t)
+        JumpEqual(register r, number n, target t) JumpNotEqual(register r, number n, target t)
+        JumpBelow(register r, number n, target t) JumpNotBelow(register r, number n, target t)
+        JumpHas(register r, bits b, target t) JumpHasNot(register r, bits b, target t)
+        Rep(count c, end e) EndRep(rep r)
+    }
 }

@@ -4,7 +4,7 @@ ghost use Rattle.zl_code.specs.Limits.{register_count};
 use std::marker::Model;
 
 /// One of the 32 registers of a process. Own profile.
-#[derive(Clone, Copy)]
+#[derive(Clone, Copy, PartialEq, Eq)]
 pub struct Register {
     number: u8,
 }

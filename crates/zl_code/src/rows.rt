@@ -149,13 +149,6 @@ macro_rules! call_rows {
     };
 }
 
-macro_rules! call_row {
-    ($chosen:ident $($call:ident $opcode:literal $name:literal [$($field:ident $(($($of:expr),+))?)*]
-        $ending:ident, $gives:expr, $condition:expr, $grows:literal, $in_list:expr;)*) => {
-        match $chosen { $(CallName::$call => CALL_ROWS[$opcode - 64],)* }
-    };
-}
-
 macro_rules! call_names {
     ($($call:ident $opcode:literal $name:literal [$($field:ident $(($($of:expr),+))?)*]
         $ending:ident, $gives:expr, $condition:expr, $grows:literal, $in_list:expr;)*) => {
@@ -192,8 +185,7 @@ impl CallName {
         ensures gives { result.columns.now.gives ≡ given self }
         ensures registers { length result.columns.now.fields.now ≤ most_registers }
     {
-        let call = self;
-        calls!(call_row call)
+        CALL_ROWS[self as usize]
     }
 
     /// The call with this opcode, from 64 on; nothing where it is unknown.

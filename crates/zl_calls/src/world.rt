@@ -25,7 +25,7 @@ use crate::waking::{Woke, add_blocked, fall_asleep, wake};
 use std::alloc::{AllocError, Global};
 use std::marker::Model;
 use zl_code::{Boot, BootCause, BootFault, CallName, Image, Outcome, ProcState, TraceItem};
-use zl_interp::{Cpu, Done, Library, Turn};
+use zl_interp::{Cpu, Done, Library, Spent, Turn};
 use zl_objects::Objects;
 use zl_rights::{Pid, Status};
 
@@ -328,8 +328,9 @@ impl World {
     /// The local instructions that were done become steps of the world, one after another: the process
     /// gets the Cpu with which they ended.
     ///
-    /// What was done has to fit, and its process has to be ready. It takes no memory.
-    pub fn advance(&mut self, done: Done)
+    /// What was done has to fit, and its process has to be ready. It takes no memory, and lets go of
+    /// none: what is left of the turn comes back.
+    pub fn advance(&mut self, done: Done) -> Spent
         requires ready { IsTrue (is_ready_in self.old done.pid) }
         requires fits { Fits self.old done }
         ensures cpu { self.new ≡ advanced self.old done }
@@ -341,6 +342,6 @@ impl World {
             unreachable!()
         };
         let process = &mut self.processes.list[place];
-        process.cpu = done.into_cpu();
+        done.move_to(&mut process.cpu)
     }
 }

@@ -217,13 +217,33 @@ impl Done {
             && has_marked(image.code(), own.code(), &self.work.marks)
     }
 
-    /// The Cpu with which it ended.
-    pub fn into_cpu(self) -> Cpu
-        ensures { result ≡ self.to }
+    /// The Cpu becomes the one with which it ended. What is left comes back.
+    pub fn move_to(self, cpu: &mut Cpu) -> Spent
+        ensures { cpu.new ≡ self.to }
     {
-        let Work { to, .. } = Box::into_inner(self.work);
-        to
+        let Done {
+            program,
+            mut work,
+            ..
+        } = self;
+        std::mem::swap(cpu, &mut work.to);
+        Spent { program, work }
     }
+
+    /// What is left of it where nobody takes it.
+    pub fn spent(self) -> Spent {
+        let Done { program, work, .. } = self;
+        Spent { program, work }
+    }
+}
+
+/// What is left of a turn behind its burst: memory, for whoever lets go of it.
+///
+/// Source: own profile.
+#[derive(Drop)]
+pub struct Spent {
+    program: Arc<Program>,
+    work: Box<Work>,
 }
 
 /// Whether there is a place with this number, and it is marked.
@@ -305,16 +325,7 @@ fn is_in_place(code: &[Instr], own: &[Instr], marks: &[bool], n: usize) -> bool
     requires within { n < length own.now }
     ensures { IsTrue result ↔ IsSpelledAt code.now (marked own.now marks.now) n }
 {
-    !marks[n] || are_spelled_alike(&code[n], &own[n])
-}
-
-/// Whether both have the same bytes. It stands apart, as most places of a long program aren't
-/// marked.
-#[inline(never)]
-fn are_spelled_alike(one: &Instr, other: &Instr) -> bool
-    ensures { IsTrue result ↔ instr_bytes one.now ≡ instr_bytes other.now }
-{
-    one.to_bytes() == other.to_bytes()
+    !marks[n] || code[n].is_spelled_like(&own[n])
 }
 
 /// Lets the process of the turn go on by itself, for at most so many local instructions.

@@ -18,7 +18,7 @@ mod program;
 mod running;
 
 pub use arrays::room_for_handles;
-pub use bursts::{Done, Stop, Turn, burst};
+pub use bursts::{Done, Spent, Stop, Turn, burst};
 pub use cpu::Cpu;
 pub use next::{call_at, has_its_memory, local_step};
 pub use program::{Library, Program};

@@ -4,7 +4,7 @@ ghost use Rattle.zl_pool.specs.Pool.{Finds, Gives};
 
 use crate::gate::Gate;
 use std::sync::{Condvar, Mutex, MutexGuard, Wait};
-use zl_interp::{Done, Stop, Turn};
+use zl_interp::{Done, Spent, Stop, Turn};
 use zl_sched::{HandIn, Kernel};
 
 /// The kernel behind its lock, and where workers wait until something was handed in.
@@ -54,13 +54,14 @@ fn next<K: Kernel>(kernel: &mut K) -> Found
     }
 }
 
-/// Hands in what was done, and says whether to go on.
-fn give<K: Kernel>(kernel: &mut K, done: Done) -> bool
-    ensures { Gives (K.meaning kernel.old) done result (K.meaning kernel.new) }
+/// Hands in what was done, and says whether to go on. What is left of the turn comes back.
+fn give<K: Kernel>(kernel: &mut K, done: Done) -> (bool, Spent)
+    ensures { Gives (K.meaning kernel.old) done result.0 (K.meaning kernel.new) }
 {
-    match kernel.hand_in(done) {
-        HandIn::Taken | HandIn::Gone | HandIn::Stranger => true,
-        HandIn::Limit | HandIn::NoMemory => false,
+    let (answer, spent) = kernel.hand_in(done);
+    match answer {
+        HandIn::Taken | HandIn::Gone | HandIn::Stranger => (true, spent),
+        HandIn::Limit | HandIn::NoMemory => (false, spent),
     }
 }
 
@@ -103,16 +104,21 @@ fn next_turn<'a, R: Wait, K: Kernel>(
 pub fn work<R: Wait, K: Kernel, G: Gate>(rt: &R, desk: &Desk<K>, gate: &G, most: u32) {
     let most = most.max(1);
     let mut wakes = false;
+    let mut left = None;
     let mut kernel = desk.kernel.lock(rt);
     for _ in rt.forever() {
         let Some(turn) = next_turn(rt, desk, kernel, wakes) else {
             break;
         };
+        // Memory is let go while the lock is free.
+        drop(left.take());
         let done = gate.burst(turn, most);
         // By local instructions alone nobody else becomes ready.
         wakes = done.stop() != Stop::More;
         kernel = desk.kernel.lock(rt);
-        if !give(&mut *kernel, done) {
+        let (goes_on, spent) = give(&mut *kernel, done);
+        left = Some(spent);
+        if !goes_on {
             drop(kernel);
             break;
         }

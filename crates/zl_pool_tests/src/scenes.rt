@@ -133,7 +133,7 @@ fn first_of(held: &mut Vec<Turn>, pid: Pid) -> Option<Turn> {
 /// Whether there is a turn, whose burst is answered so.
 fn hands_in(system: &mut System, turn: Option<Turn>, answer: HandIn) -> bool {
     match turn {
-        Some(turn) => system.hand_in(burst(turn, 256)) == answer,
+        Some(turn) => system.hand_in(burst(turn, 256)).0 == answer,
         None => false,
     }
 }

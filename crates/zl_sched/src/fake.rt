@@ -6,7 +6,7 @@ use crate::hand_in::{HandIn, Judged};
 use crate::kernel::Kernel;
 use crate::system::System;
 use std::alloc::AllocError;
-use zl_interp::{Done, Turn};
+use zl_interp::{Done, Spent, Turn};
 
 /// A system that refuses memory once so many calls were made that may want it.
 ///
@@ -43,7 +43,7 @@ impl Kernel for Fake {
         self.system.take()
     }
 
-    fn hand_in(&mut self, done: Done) -> HandIn {
+    fn hand_in(&mut self, done: Done) -> (HandIn, Spent) {
         if self.has_memory() {
             return self.system.hand_in(done);
         }
@@ -51,7 +51,7 @@ impl Kernel for Fake {
         match self.system.judge(&done) {
             Judged::Fits => {
                 self.system.put_back(done.pid());
-                HandIn::NoMemory
+                (HandIn::NoMemory, done.spent())
             }
             _ => self.system.hand_in(done),
         }

@@ -14,7 +14,7 @@ use crate::system::{System, make_room};
 use std::alloc::AllocError;
 use zl_calls::World;
 use zl_code::TraceItem;
-use zl_interp::{Done, Stop, Turn};
+use zl_interp::{Done, Spent, Stop, Turn};
 use zl_rights::Pid;
 
 /// What became of a burst that was handed in.
@@ -72,37 +72,39 @@ impl System {
     }
 
     /// What a process did that is out: the local instructions become one item, if there were any, and
-    /// where it is at a call, or stuck, it does that too. It isn't out any more.
+    /// where it is at a call, or stuck, it does that too. It isn't out any more. What is left of its turn
+    /// comes back, whatever the answer.
     ///
     /// `Stranger` comes where the process isn't out, or lives with another Cpu than that with which it
     /// began, or with a program of another version, of more or fewer instructions than places are carried,
     /// or with another one in a place that is filled; `Gone` where it lives no more; else `Limit` where the trace has no
     /// room for the items, and `NoMemory` where memory is refused. That it was refused no clause says. After
     /// these nothing is different but that a living process which was out is last in the ready list.
-    pub fn hand_in(&mut self, done: Done) -> HandIn
-        ensures { HandsIn self.old done result self.new }
+    pub fn hand_in(&mut self, done: Done) -> (HandIn, Spent)
+        ensures { HandsIn self.old done result.0 self.new }
     {
         let pid = done.pid();
         match self.judge(&done) {
-            Judged::NotOut => HandIn::Stranger,
+            Judged::NotOut => (HandIn::Stranger, done.spent()),
             Judged::Gone => {
                 self.forget(pid);
-                HandIn::Gone
+                (HandIn::Gone, done.spent())
             }
             Judged::Other => {
                 self.put_back(pid);
-                HandIn::Stranger
+                (HandIn::Stranger, done.spent())
             }
             Judged::Full => {
                 self.put_back(pid);
-                HandIn::Limit
+                (HandIn::Limit, done.spent())
             }
             Judged::Fits => {
-                if !self.accept(done) {
+                let (is_taken, spent) = self.accept(done);
+                if !is_taken {
                     self.put_back(pid);
-                    return HandIn::NoMemory;
+                    return (HandIn::NoMemory, spent);
                 }
-                HandIn::Taken
+                (HandIn::Taken, spent)
             }
         }
     }
@@ -146,22 +148,22 @@ impl System {
     }
 
     /// Takes what was done, where there is memory for its items; else nothing changes.
-    fn accept(&mut self, done: Done) -> bool
+    fn accept(&mut self, done: Done) -> (bool, Spent)
         requires awaited { IsAwaited self.old done }
         requires room { HasRoom self.old done }
-        ensures { MatchBool result (Accepts self.old done self.new) (self.new ≡ self.old) }
+        ensures { MatchBool result.0 (Accepts self.old done self.new) (self.new ≡ self.old) }
     {
         if self.items.reserve(count_of(&done) as usize).is_err() {
-            return false;
+            return (false, done.spent());
         }
         if make_room(&mut self.ready, &self.world).is_err() {
-            return false;
+            return (false, done.spent());
         }
         let pid = done.pid();
-        let change = go(&mut self.world, &mut self.items, done);
+        let (change, spent) = go(&mut self.world, &mut self.items, done);
         unmark(&mut self.out, pid);
         queue(&mut self.ready, &self.out, &self.world, pid, change);
-        true
+        (true, spent)
     }
 }
 
@@ -187,17 +189,17 @@ fn is_more(stop: Stop) -> bool
 
 /// The local instructions that were done, and the step behind them, with their items. It tells what
 /// they changed of who is ready.
-fn go(world: &mut World, items: &mut Vec<TraceItem>, done: Done) -> Change
+fn go(world: &mut World, items: &mut Vec<TraceItem>, done: Done) -> (Change, Spent)
     requires ready { IsTrue (is_ready_in world.old done.pid) }
     requires fits { Fits world.old done }
     requires room { length items.old.items + items_of done ≤ vec_capacity items.old }
-    ensures { GoesFrom world.old items.old.items done result world.new items.new.items }
+    ensures { GoesFrom world.old items.old.items done result.0 world.new items.new.items }
 {
     let pid = done.pid();
     let is_only_local = is_more(done.stop());
     push_run(items, pid, done.ran());
-    world.advance(done);
-    end(world, items, pid, is_only_local)
+    let spent = world.advance(done);
+    (end(world, items, pid, is_only_local), spent)
 }
 
 /// The step behind the local instructions, unless these are all that was done. It tells what that

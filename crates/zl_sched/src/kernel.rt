@@ -7,7 +7,7 @@ ghost use Rattle.zl_sched.specs.System.{IsIdle};
 use crate::hand_in::HandIn;
 use crate::system::System;
 use std::alloc::AllocError;
-use zl_interp::{Done, Turn};
+use zl_interp::{Done, Spent, Turn};
 
 /// What may stand behind the lock of the workers.
 pub trait Kernel {
@@ -24,8 +24,8 @@ pub trait Kernel {
             (λ refused. LacksTurn (meaning self.old) (meaning self.new)) };
 
     /// As `System::hand_in`.
-    fn hand_in(&mut self, done: Done) -> HandIn
-        ensures { HandsIn (meaning self.old) done result (meaning self.new) };
+    fn hand_in(&mut self, done: Done) -> (HandIn, Spent)
+        ensures { HandsIn (meaning self.old) done result.0 (meaning self.new) };
 
     /// As `System::idle`.
     fn idle(&self) -> bool
@@ -39,7 +39,7 @@ impl Kernel for System {
         System::take(self)
     }
 
-    fn hand_in(&mut self, done: Done) -> HandIn {
+    fn hand_in(&mut self, done: Done) -> (HandIn, Spent) {
         System::hand_in(self, done)
     }
 

@@ -184,13 +184,20 @@ fn largest(alloc: Global) -> Result<Image, Fail> {
     image(alloc, &text)
 }
 
+/// The Cpu with which it ended.
+fn last_cpu(alloc: Global, program: &Program, done: Done) -> Result<Cpu, AllocError> {
+    let mut cpu = Cpu::new(alloc, program.image(), 0)?;
+    done.move_to(&mut cpu);
+    Ok(cpu)
+}
+
 /// What a process did last that did so many bursts of nine instructions each.
 fn did_bursts(alloc: Global, program: &Arc<Program>, count: u32) -> Result<Done, AllocError>
     requires { (program_value (arc_value program.now)).checked ≡ false }
 {
     let mut cpu = Cpu::new(alloc, program.image(), 7)?;
     for _ in 1..count {
-        cpu = went_on(alloc, program, &cpu, 9)?.into_cpu();
+        went_on(alloc, program, &cpu, 9)?.move_to(&mut cpu);
     }
     went_on(alloc, program, &cpu, 9)
 }
@@ -210,7 +217,8 @@ fn short_bursts_go_on_in_the_largest_program(rt: HostRuntime) -> Result<(), Fail
         (filled(&last), last.is_filled(4)),
         ([false, true, true, true], true)
     );
-    assert_eq!(rt; last.into_cpu().registers().get(3), Some(&45));
+    let cpu = last_cpu(rt.alloc(), &program, last)?;
+    assert_eq!(rt; cpu.registers().get(3), Some(&45));
     Ok(())
 }
 
@@ -219,9 +227,10 @@ fn a_burst_goes_on_where_another_ended(rt: HostRuntime) -> Result<(), Fail> {
     let program = program(rt.alloc(), COUNTS)?;
     let first = started(rt.alloc(), &program, 4)?;
     assert_eq!(rt; (first.pid(), first.from().counter()), (2, 0));
-    let second = burst(Turn::new(rt.alloc(), 2, &program, &first.into_cpu())?, 256);
+    let cpu = last_cpu(rt.alloc(), &program, first)?;
+    let second = burst(Turn::new(rt.alloc(), 2, &program, &cpu)?, 256);
     assert_eq!(rt; (second.ran(), second.stop()), (7, Stop::AtCall));
-    let last = second.into_cpu();
+    let last = last_cpu(rt.alloc(), &program, second)?;
     assert_eq!(rt; last.counter(), 3);
     assert_eq!(rt; last.registers().get(1..3), Some([7, 5].as_slice()));
     Ok(())

@@ -9,4 +9,4 @@ returns-then-not-marks-n c =
 pub returns-else-not-marks-n : goal.returns-else-not-marks-n
 returns-else-not-marks-n c =
     spelled_alike c.args.code.now c.args.own.now c.args.marks.now c.args.n c.requires.long c.requires.within c.index-code-n.result c.index-own-n.result
-    c.if-not-marks-n.false c.index-code-n.is c.index-own-n.is (IsTrue c.are_spelled_alike.result) c.are_spelled_alike.ensures
+    c.if-not-marks-n.false c.index-code-n.is c.index-own-n.is (IsTrue c.is_spelled_like.result) c.is_spelled_like.ensures

@@ -6,7 +6,7 @@ use Rattle.zl_sched.proofs.hand_in.go.Goals as goal
 
 pub end-requires-clause-ready : goal.end-requires-clause-ready
 end-requires-clause-ready c =
-    rw (c.advance.ensures.cpu, c.pid-pid.ensures)
+    rw (c.advance-spent.ensures.cpu, c.pid-pid.ensures)
     (state_kept c.args.world.now.world c.args.done.pid (λ p. record p { cpu = c.args.done.to }) (λ y. refl) is_ready c.args.done.pid ∙ c.requires.ready)
 
 pub push_run-requires : goal.push_run-requires
@@ -24,9 +24,9 @@ end-requires-clause-room c =
 pub returns : goal.returns
 returns c =
     let behind : EndsFrom (is_more c.args.done.stop) (advanced c.args.world.now c.args.done) c.push_run.new.items.items c.args.done.pid c.end.result
-    c.end.new.world c.end.new.items.items = rw (c.is_more-is_only_local.ensures, c.stop.ensures, c.advance.ensures.cpu, c.pid-pid.ensures) at c.end.ensures in
+    c.end.new.world c.end.new.items.items = rw (c.is_more-is_only_local.ensures, c.stop.ensures, c.advance-spent.ensures.cpu, c.pid-pid.ensures) at c.end.ensures in
     record {
-      steps = rw c.advance.ensures.cpu at c.advance.ensures.steps;
+      steps = rw c.advance-spent.ensures.cpu at c.advance-spent.ensures.steps;
       last = behind.last;
       items_are = behind.items_are ∙ (ap (λ (xs : List TraceItem). xs ++ behind.last) (rw (c.pid-pid.ensures, c.ran.ensures.count) at c.push_run.ensures.items)
           ∙ append_assoc c.args.items.now.items (run_items c.args.done.pid c.args.done.ran) behind.last);

@@ -16,7 +16,7 @@ module _ (c : goal.After-self-1) where
   p = c.index_mut-process.result.now
 
   abbrev p2 : Process
-  p2 = record p { cpu = c.into_cpu.result }
+  p2 = record p { cpu = c.move_to.new.cpu }
 
   first : Some c.in-Some.place ≡ position (λ q. q.pid == c.args.done.pid) c.self.inside.processes.list.items
   first = rw c.pid.ensures at (c.in-Some.ensures {u = tt}).first
@@ -50,7 +50,7 @@ module _ (c : goal.After-self-1) where
 
   follows : after_locals g.image c.args.done.ran p.cpu ≡ Some p2.cpu
   follows = ap (after_locals g.image c.args.done.ran) cpu
-      ∙ (c.ran.ensures.follows.follows g.image c.requires.fits.matches ∙ ap (λ (d : Cpu). Some d) (sym c.into_cpu.ensures))
+      ∙ (c.ran.ensures.follows.follows g.image c.requires.fits.matches ∙ ap (λ (d : Cpu). Some d) (sym c.move_to.ensures))
 
 pub invariant_of-self-inside : goal.invariant_of-self-inside
 invariant_of-self-inside c = record {
@@ -60,8 +60,8 @@ invariant_of-self-inside c = record {
 }
 
 -- the world with that counter, before it is put back
-abbrev written : goal.After-drop-process-2 → goal.After-self-1
-written c = c.before.before.before.before
+abbrev written : goal.After-self-2-1 → goal.After-self-1
+written c = c.before
 
 pub invariant_of-self : goal.invariant_of-self
 invariant_of-self c = record {
@@ -85,7 +85,7 @@ pub returns-clause-cpu : goal.returns-clause-cpu
 returns-clause-cpu c =
     let world = moved_world (turn (written c)) (p2 (written c)) refl
     ∙ ap (λ (d : Cpu). on_process (world_blocked c.self.inside.processes.list.items c.self.inside.objects c.self.inside.blocked.items) c.args.done.pid
-    (λ q. record q { cpu = d })) c.into_cpu.ensures in
+    (λ q. record q { cpu = d })) c.move_to.ensures in
     let free = set_unseen free_entry c.self.inside.processes.list.items c.in-Some.place (p (written c))
     (p2 (written c)) c.index_mut-process.ensures.value refl in
     rw (← c.self.view_is) (λ i. record { programs = c.self.inside.library; world = world i; free = free i })

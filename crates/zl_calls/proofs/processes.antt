@@ -8,3 +8,4 @@ pub mod Idle
 pub mod Answering
 pub mod InOrder
 pub mod Started
+pub mod Near

@@ -1,6 +1,6 @@
 //! Every process ever made, each under its koid.
 
-ghost use Rattle.std.specs.Prelude.{◌≡◌, ◌<◌, ◌==◌, ◌++◌, [], ◌∷◌, length, vec_capacity, None, IsTrue, MatchOption, map};
+ghost use Rattle.std.specs.Prelude.{◌≡◌, ◌<◌, ◌==◌, ◌++◌, [], ◌∷◌, length, vec_capacity, None, IfSome, IsTrue, MatchOption, map, slice_get};
 ghost use Rattle.std.specs.List.{position};
 ghost use Rattle.std.specs.Ordering.{nat_cmp};
 ghost use Rattle.std.specs.FinMap.Entries.{is_sorted};
@@ -17,6 +17,8 @@ pub struct Processes {
     pub list: Vec<Process>,
     // All before this place were started, or are gone.
     pub unstarted: usize,
+    // The place at which the last one was found: each is looked for there first.
+    pub near: usize,
     ghost in_order: { IsTrue (is_sorted nat_cmp (map process_entry list.items)) },
     ghost started: { NoneUnstarted unstarted list.items },
 }
@@ -43,8 +45,39 @@ impl Processes {
         ensures first { result
             ≡ position (λ process. process.pid == pid) self.now.list.items }
     {
+        if self.is_near(pid) {
+            return Some(self.near);
+        }
         self.list
             .binary_search_by_key(&pid, |process| process.pid)
             .ok()
+    }
+
+    /// Whether the process stands where one was found last.
+    #[inline(always)]
+    fn is_near(&self, pid: Pid) -> bool
+        ensures found { IsTrue result → IfSome (slice_get self.now.list.items self.now.near)
+            (λ process. process.pid ≡ pid) }
+        ensures within { IsTrue result → self.now.near < length self.now.list.items }
+    {
+        match self.list.get(self.near) {
+            Some(process) => process.pid == pid,
+            None => false,
+        }
+    }
+
+    /// Where the process stands. It is looked for there first from now on.
+    #[inline(always)]
+    pub fn find(&mut self, pid: Pid) -> Option<usize>
+        ensures found { MatchOption result
+            (get (map process_entry self.old.list.items) pid ≡ None)
+            (IsPlaceOf self.old.list.items pid) }
+        ensures first { result
+            ≡ position (λ process. process.pid == pid) self.old.list.items }
+        ensures same { self.new ≡ record self.old { near = self.new.near } }
+    {
+        let place = self.place_of(pid)?;
+        self.near = place;
+        Some(place)
     }
 }

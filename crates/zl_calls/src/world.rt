@@ -121,6 +121,7 @@ impl World {
             processes: Processes {
                 list: processes,
                 unstarted: 0,
+                near: 0,
             },
             objects,
             blocked,
@@ -287,6 +288,14 @@ impl World {
             TraceItem::Stuck { .. } => Local::Stuck,
             TraceItem::Call { .. } => unreachable!(),
         }
+    }
+
+    /// Looks for the process, which is found at once then until another is looked for. Nothing that is
+    /// seen changes.
+    pub fn find(&mut self, pid: Pid)
+        ensures { self.new ≡ self.old }
+    {
+        let _ = self.processes.find(pid);
     }
 
     /// What the process goes on with by itself: its program, and its Cpu as it stands.

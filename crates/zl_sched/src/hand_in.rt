@@ -84,6 +84,7 @@ impl System {
         ensures { HandsIn self.old done result.0 self.new }
     {
         let pid = done.pid();
+        self.world.find(pid);
         match self.judge(&done) {
             Judged::NotOut => (HandIn::Stranger, done.spent()),
             Judged::Gone => {

@@ -1,6 +1,7 @@
-use Rattle.zl_calls.proofs.Common.{Process, process_value, rules, ◌∙◌}
+use Rattle.zl_calls.proofs.Common.{Process, Some, process_value, rules, ◌∙◌}
 use Rattle.std.proofs.lemmas.List.Sorted.{answers_always}
 use Rattle.zl_objects.proofs.Searching.{searched}
+use Rattle.zl_calls.proofs.processes.Near.{near_first}
 use Rattle.zl_calls.proofs.processes.Written.{place_is}
 use Rattle.zl_calls.proofs.processes.Processes.place_of.Goals as goal
 
@@ -15,3 +16,12 @@ returns-clause-first c =
 
 pub returns-clause-found : goal.returns-clause-found
 returns-clause-found c = place_is c.args.self.now.list.items c.args.pid c.ok.result (returns-clause-first c)
+
+pub returns-then-is_near-clause-first : goal.returns-then-is_near-clause-first
+returns-then-is_near-clause-first c =
+    near_first c.args.self.now.list.items c.args.pid c.args.self.now.near c.args.self.now.in_order (c.is_near.ensures.within c.if-is_near.true)
+    (c.is_near.ensures.found c.if-is_near.true)
+
+pub returns-then-is_near-clause-found : goal.returns-then-is_near-clause-found
+returns-then-is_near-clause-found c =
+    place_is c.args.self.now.list.items c.args.pid (Some c.args.self.now.near) (returns-then-is_near-clause-first c)

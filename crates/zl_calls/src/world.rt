@@ -300,8 +300,9 @@ impl World {
 
     /// What the process goes on with by itself: its program, and its Cpu as it stands.
     ///
-    /// The process has to be ready. Only memory can be refused.
-    pub fn turn(&self, pid: Pid) -> Result<Turn, AllocError>
+    /// The process has to be ready. Where something is left of another turn, that is used up. Only memory
+    /// can be refused.
+    pub fn turn(&self, pid: Pid, spare: &mut Option<Spent>) -> Result<Turn, AllocError>
         requires { IsTrue (is_ready_in self.now pid) }
         ensures { IfOk result (IsTurn self.now pid) }
     {
@@ -312,7 +313,7 @@ impl World {
         let Some(program) = self.library.shared(process.program) else {
             unreachable!()
         };
-        Turn::new(self.alloc, pid, program, &process.cpu)
+        Turn::new(self.alloc, pid, program, &process.cpu, spare)
     }
 
     /// Whether its process stands here with the Cpu with which it began, the same field by field, and

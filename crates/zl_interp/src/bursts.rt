@@ -13,6 +13,7 @@ ghost use Rattle.zl_verify.specs.Covered.{IsAble, IsAbleIn};
 use crate::cpu::Cpu;
 use crate::next::{step_in, step_sure, stop_of};
 use crate::program::Program;
+use crate::work::{Spent, Work};
 use std::alloc::{AllocError, Global};
 use std::marker::Model;
 use std::sync::Arc;
@@ -30,17 +31,6 @@ pub enum Stop {
     More,
     /// Nothing stands next that can be done.
     Stuck,
-}
-
-/// What a turn carries to what was done: the Cpu with which it begins, the one that goes on, and a
-/// mark for each instruction of the program.
-///
-/// It is large, so it lies in one place, in which a burst works.
-#[derive(Drop)]
-struct Work {
-    from: Cpu,
-    to: Cpu,
-    marks: Vec<bool>,
 }
 
 /// A process that may go on by itself: its koid, its program, and its Cpu as it stands.
@@ -82,12 +72,14 @@ impl Model for Turn {
 impl Turn {
     /// A turn of the process with this koid, which runs the program and has this Cpu.
     ///
-    /// The Cpu of a checked program has to be as a typing of it says. Only memory can be refused.
+    /// The Cpu of a checked program has to be as a typing of it says. Where something is left of another
+    /// turn, that is used up. Only memory can be refused.
     pub fn new(
         alloc: Global,
         pid: Pid,
         program: &Arc<Program>,
         cpu: &Cpu,
+        spare: &mut Option<Spent>,
     ) -> Result<Turn, AllocError>
         requires able { IsAbleIn (program_value (arc_value program.now)) cpu.now }
         ensures { IfOk result (λ turn. turn ≡ record {
@@ -96,15 +88,11 @@ impl Turn {
           cpu = cpu.now;
         }) }
     {
-        let work = Work {
-            from: cpu.copy(alloc)?,
-            to: cpu.copy(alloc)?,
-            marks: vec![in alloc; false; program.image().len()]?,
-        };
+        let len = program.image().len();
         Ok(Turn {
             pid,
             program: Arc::try_clone(program)?,
-            work: Box::new(alloc, work)?,
+            work: Work::begun(alloc, cpu, len, spare)?,
         })
     }
 
@@ -221,29 +209,15 @@ impl Done {
     pub fn move_to(self, cpu: &mut Cpu) -> Spent
         ensures { cpu.new ≡ self.to }
     {
-        let Done {
-            program,
-            mut work,
-            ..
-        } = self;
+        let Done { mut work, .. } = self;
         std::mem::swap(cpu, &mut work.to);
-        Spent { program, work }
+        Spent { work }
     }
 
     /// What is left of it where nobody takes it.
     pub fn spent(self) -> Spent {
-        let Done { program, work, .. } = self;
-        Spent { program, work }
+        Spent { work: self.work }
     }
-}
-
-/// What is left of a turn behind its burst: memory, for whoever lets go of it.
-///
-/// Source: own profile.
-#[derive(Drop)]
-pub struct Spent {
-    program: Arc<Program>,
-    work: Box<Work>,
 }
 
 /// Whether there is a place with this number, and it is marked.

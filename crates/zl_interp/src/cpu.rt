@@ -1,6 +1,6 @@
 //! What a process computes with, and its registers.
 
-ghost use Rattle.std.specs.Prelude.{◌≡◌, ◌↔◌, IsTrue, ◌+◌, ◌<◌, ◌≤◌, ◌^◌, [], ◌∷◌, length, map, take, IfOk};
+ghost use Rattle.std.specs.Prelude.{◌≡◌, ◌↔◌, IsTrue, ◌+◌, ◌<◌, ◌≤◌, ◌^◌, [], ◌∷◌, length, map, take, IfOk, OnOk};
 ghost use Rattle.zl_rights.specs.World.{written};
 ghost use Rattle.zl_code.specs.Asked.{used};
 ghost use Rattle.zl_code.specs.Limits.{most_handles};
@@ -75,6 +75,18 @@ impl Cpu {
             slots: copied_slots(alloc, &self.slots)?,
             counters: self.counters.copy(),
         })
+    }
+
+    /// Becomes the other Cpu; data memory stays where it is, if there is room. Only memory can be refused.
+    pub fn copy_from(&mut self, alloc: Global, other: &Cpu) -> Result<(), AllocError>
+        ensures { OnOk result (self.new ≡ other.now) }
+    {
+        refill(&mut self.memory, &other.memory)?;
+        self.slots = copied_slots(alloc, &other.slots)?;
+        self.counter = other.counter;
+        self.registers = other.registers;
+        self.counters = other.counters.copy();
+        Ok(())
     }
 
     /// Whether the other Cpu is the same in each part.
@@ -219,6 +231,14 @@ fn copied<T: Copy>(alloc: Global, items: &[T]) -> Result<Vec<T>, AllocError>
     let mut copy = Vec::with_capacity(alloc, items.len())?;
     copy.extend_from_slice(items)?;
     Ok(copy)
+}
+
+/// The items come in place of those that are there.
+fn refill<T: Copy>(items: &mut Vec<T>, others: &[T]) -> Result<(), AllocError>
+    ensures { OnOk result (items.new.items ≡ others.now) }
+{
+    items.clear();
+    items.extend_from_slice(others)
 }
 
 /// Whether both have the same in each place of each slot array.

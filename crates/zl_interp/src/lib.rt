@@ -16,9 +16,11 @@ mod next;
 mod packing;
 mod program;
 mod running;
+mod work;
 
 pub use arrays::room_for_handles;
-pub use bursts::{Done, Spent, Stop, Turn, burst};
+pub use bursts::{Done, Stop, Turn, burst};
 pub use cpu::Cpu;
 pub use next::{call_at, has_its_memory, local_step};
 pub use program::{Library, Program};
+pub use work::Spent;

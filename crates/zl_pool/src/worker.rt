@@ -37,11 +37,11 @@ enum Found {
     NoMemory,
 }
 
-/// The next turn, or why there is none.
-fn next<K: Kernel>(kernel: &mut K) -> Found
+/// The next turn, or why there is none. What is left of another turn is used up for it.
+fn next<K: Kernel>(kernel: &mut K, spare: &mut Option<Spent>) -> Found
     ensures { Finds (K.meaning kernel.old) result (K.meaning kernel.new) }
 {
-    match kernel.take() {
+    match kernel.take(spare) {
         Ok(Some(turn)) => Found::Turn(turn),
         Ok(None) => {
             if kernel.idle() {
@@ -72,10 +72,11 @@ fn next_turn<'a, R: Wait, K: Kernel>(
     desk: &'a Desk<K>,
     kernel: MutexGuard<'a, K>,
     wakes: bool,
+    spare: &mut Option<Spent>,
 ) -> Option<Turn> {
     let (mut kernel, mut wakes) = (kernel, wakes);
     for _ in rt.forever() {
-        match next(&mut *kernel) {
+        match next(&mut *kernel, spare) {
             Found::Turn(turn) => {
                 drop(kernel);
                 if wakes {
@@ -104,20 +105,19 @@ fn next_turn<'a, R: Wait, K: Kernel>(
 pub fn work<R: Wait, K: Kernel, G: Gate>(rt: &R, desk: &Desk<K>, gate: &G, most: u32) {
     let most = most.max(1);
     let mut wakes = false;
-    let mut left = None;
+    // A turn lies where the last one of its worker lay, so behind the lock little memory comes or goes.
+    let mut spare = None;
     let mut kernel = desk.kernel.lock(rt);
     for _ in rt.forever() {
-        let Some(turn) = next_turn(rt, desk, kernel, wakes) else {
+        let Some(turn) = next_turn(rt, desk, kernel, wakes, &mut spare) else {
             break;
         };
-        // Memory is let go while the lock is free.
-        drop(left.take());
         let done = gate.burst(turn, most);
         // By local instructions alone nobody else becomes ready.
         wakes = done.stop() != Stop::More;
         kernel = desk.kernel.lock(rt);
         let (goes_on, spent) = give(&mut *kernel, done);
-        left = Some(spent);
+        spare = Some(spent);
         if !goes_on {
             drop(kernel);
             break;

@@ -86,7 +86,7 @@ fn comes_so(
 ) -> Result<bool, Fail> {
     match act {
         Act::Take(pid) => takes(system, held, *pid),
-        Act::TakeNothing => Ok(system.take()?.is_none()),
+        Act::TakeNothing => Ok(system.take(&mut None)?.is_none()),
         Act::TakeEach(first, last) => takes_each(system, held, *first, *last),
         Act::HandIn(pid, answer) => Ok(hands_in(system, first_of(held, *pid), *answer)),
         Act::HandInEach(first, last, answer) => {
@@ -101,7 +101,7 @@ fn comes_so(
 
 /// Whether the process is the first of the ready list. The turn that is taken out is held.
 fn takes(system: &mut System, held: &mut Vec<Turn>, pid: Pid) -> Result<bool, Fail> {
-    let Some(turn) = system.take()? else {
+    let Some(turn) = system.take(&mut None)? else {
         return Ok(false);
     };
     let is_so = turn.pid() == pid;
@@ -163,7 +163,7 @@ fn foreign(alloc: Global, processes: &[(&str, u64)], pid: Pid) -> Result<Option<
 /// The turn of the process, where it is among so many that are taken out. Those before it are let go.
 fn taken_at_last(system: &mut System, most: usize, pid: Pid) -> Result<Option<Turn>, Fail> {
     for _ in 0..most {
-        let Some(turn) = system.take()? else {
+        let Some(turn) = system.take(&mut None)? else {
             return Ok(None);
         };
         if turn.pid() == pid {

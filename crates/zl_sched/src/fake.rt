@@ -33,14 +33,14 @@ impl Fake {
 impl Kernel for Fake {
     ghost meaning = { λ f. f.system };
 
-    fn take(&mut self) -> Result<Option<Turn>, AllocError> {
+    fn take(&mut self, spare: &mut Option<Spent>) -> Result<Option<Turn>, AllocError> {
         if self.system.ready.is_empty() {
             return Ok(None);
         }
         if !self.has_memory() {
             return Err(AllocError);
         }
-        self.system.take()
+        self.system.take(spare)
     }
 
     fn hand_in(&mut self, done: Done) -> (HandIn, Spent) {

@@ -49,8 +49,9 @@ impl System {
     /// The first of the ready list, with its program and its Cpu as they stand. It is out from then on,
     /// and stays so if the turn is dropped.
     ///
-    /// Nothing only where the list is empty. Only memory can be refused; then nothing changes.
-    pub fn take(&mut self) -> Result<Option<Turn>, AllocError>
+    /// Nothing only where the list is empty. Where something is left of another turn, it is used up for
+    /// this one. Only memory can be refused; then nothing changes.
+    pub fn take(&mut self, spare: &mut Option<Spent>) -> Result<Option<Turn>, AllocError>
         ensures { MatchResult result
             (λ taken. MatchOption taken (TakesNone self.old self.new)
             (λ turn. TakesOne self.old turn self.new))
@@ -63,7 +64,7 @@ impl System {
             return Err(AllocError);
         }
         let pid = self.ready[0];
-        let Ok(turn) = self.world.turn(pid) else {
+        let Ok(turn) = self.world.turn(pid, spare) else {
             return Err(AllocError);
         };
         self.ready.remove(0);

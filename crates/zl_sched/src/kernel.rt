@@ -17,7 +17,7 @@ pub trait Kernel {
     ghost meaning: { Self → System };
 
     /// As `System::take`.
-    fn take(&mut self) -> Result<Option<Turn>, AllocError>
+    fn take(&mut self, spare: &mut Option<Spent>) -> Result<Option<Turn>, AllocError>
         ensures { MatchResult result
             (λ taken. MatchOption taken (TakesNone (meaning self.old) (meaning self.new))
             (λ turn. TakesOne (meaning self.old) turn (meaning self.new)))
@@ -35,8 +35,8 @@ pub trait Kernel {
 impl Kernel for System {
     ghost meaning = { λ s. s };
 
-    fn take(&mut self) -> Result<Option<Turn>, AllocError> {
-        System::take(self)
+    fn take(&mut self, spare: &mut Option<Spent>) -> Result<Option<Turn>, AllocError> {
+        System::take(self, spare)
     }
 
     fn hand_in(&mut self, done: Done) -> (HandIn, Spent) {

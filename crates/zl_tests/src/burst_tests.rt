@@ -96,7 +96,7 @@ fn started(alloc: Global, program: &Arc<Program>, most: u32) -> Result<Done, All
 fn went_on(alloc: Global, program: &Arc<Program>, cpu: &Cpu, most: u32) -> Result<Done, AllocError>
     requires { (program_value (arc_value program.now)).checked ≡ false }
 {
-    Ok(burst(Turn::new(alloc, 2, program, cpu)?, most))
+    Ok(burst(Turn::new(alloc, 2, program, cpu, &mut None)?, most))
 }
 
 /// How many instructions a process that starts does of the text, and where it ends.
@@ -228,7 +228,7 @@ fn a_burst_goes_on_where_another_ended(rt: HostRuntime) -> Result<(), Fail> {
     let first = started(rt.alloc(), &program, 4)?;
     assert_eq!(rt; (first.pid(), first.from().counter()), (2, 0));
     let cpu = last_cpu(rt.alloc(), &program, first)?;
-    let second = burst(Turn::new(rt.alloc(), 2, &program, &cpu)?, 256);
+    let second = burst(Turn::new(rt.alloc(), 2, &program, &cpu, &mut None)?, 256);
     assert_eq!(rt; (second.ran(), second.stop()), (7, Stop::AtCall));
     let last = last_cpu(rt.alloc(), &program, second)?;
     assert_eq!(rt; last.counter(), 3);

@@ -1,8 +1,9 @@
 //! What becomes of processes that are out while others are killed, handed in or stepped.
 
 use crate::scenes::{Act, Scene, play};
-use crate::systems::{AWAITS, COUNTS, EXITS, FIRST, KILLS, SECOND};
+use crate::systems::{AWAITS, COUNTS, EXITS, FIRST, KILLS, SECOND, booted};
 use std::test::*;
+use zl_interp::burst;
 use zl_rights::Pid;
 use zl_sched::HandIn;
 
@@ -206,4 +207,37 @@ end schedule
 #[test]
 fn a_burst_with_room_for_a_part_of_it_leaves_no_part(rt: HostRuntime) -> Result<(), Fail> {
     play(rt.alloc(), &ONE_PLACE)
+}
+
+/// Does two instructions, and exits.
+const GOES: &str = ".raw
+const r2, 1
+const r3, 2
+process_exit r2
+";
+
+/// Exits at once, before two instructions.
+const LEAVES: &str = ".raw
+process_exit r2
+const r2, 1
+const r3, 2
+";
+
+#[test]
+fn a_turn_that_lies_where_another_lay_has_no_mark_of_it(rt: HostRuntime) -> Result<(), Fail> {
+    let mut system = booted(rt.alloc(), &[(GOES, 0), (LEAVES, 0)], 100)?;
+    let first = system.take(&mut None)?.ok_or("nobody is ready")?;
+    let done = burst(first, 256);
+    assert_eq!(rt; (done.ran(), done.is_filled(1)), (2, true));
+    let (answer, left) = system.hand_in(done);
+    assert_eq!(rt; answer, HandIn::Taken);
+    let mut spare = Some(left);
+    let second = system.take(&mut spare)?.ok_or("nobody else is ready")?;
+    assert!(rt; spare.is_none());
+    let done = burst(second, 256);
+    assert_eq!(rt;
+        (done.ran(), done.is_filled(0), done.is_filled(1)),
+        (0, true, false)
+    );
+    Ok(())
 }

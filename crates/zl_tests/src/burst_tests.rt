@@ -223,21 +223,6 @@ fn short_bursts_go_on_in_the_largest_program(rt: HostRuntime) -> Result<(), Fail
 }
 
 #[test]
-fn a_turn_that_lies_where_another_lay_has_no_mark_of_it(rt: HostRuntime) -> Result<(), Fail> {
-    let program = raw(rt.alloc(), largest(rt.alloc())?)?;
-    let first = did_bursts(rt.alloc(), &program, 1)?;
-    assert_eq!(rt; filled(&first), [true, true, true, true]);
-    let mut cpu = Cpu::new(rt.alloc(), program.image(), 0)?;
-    let mut spare = Some(first.move_to(&mut cpu));
-    let turn = Turn::new(rt.alloc(), 2, &program, &cpu, &mut spare)?;
-    assert!(rt; spare.is_none());
-    let second = burst(turn, 9);
-    assert_eq!(rt; (second.ran(), second.stop()), (9, Stop::More));
-    assert_eq!(rt; filled(&second), [false, true, true, true]);
-    Ok(())
-}
-
-#[test]
 fn a_burst_goes_on_where_another_ended(rt: HostRuntime) -> Result<(), Fail> {
     let program = program(rt.alloc(), COUNTS)?;
     let first = started(rt.alloc(), &program, 4)?;

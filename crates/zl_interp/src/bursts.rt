@@ -3,7 +3,6 @@
 ghost use Rattle.std.specs.Prelude.{◌≡◌, ◌≤◌, ◌<◌, ◌↔◌, ◌+◌, Some, IsTrue, IfOk, false, length, slice_get, slice_index_or, slice_set};
 ghost use Rattle.std.specs.Arc.{arc_value};
 ghost use Rattle.zl_code.specs.Image.{Image as ImageValue};
-ghost use Rattle.zl_code.specs.Spells.{instr_bytes};
 ghost use Rattle.zl_code.specs.Steps.{next_at};
 ghost use Rattle.zl_interp.specs.Bursts.{Agrees, AreUnmarked, HasBytes, IsBurst, IsSpelledAt, IsSpelledFrom, Leads, Matches, is_filled, marked, stop_at};
 ghost use Rattle.zl_interp.specs.Program.{program_value};

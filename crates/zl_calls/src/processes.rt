@@ -1,6 +1,6 @@
 //! Every process ever made, each under its koid.
 
-ghost use Rattle.std.specs.Prelude.{◌≡◌, ◌<◌, ◌==◌, ◌++◌, [], ◌∷◌, length, vec_capacity, None, IfSome, IsTrue, MatchOption, map, slice_get};
+ghost use Rattle.std.specs.Prelude.{◌≡◌, ◌<◌, ◌==◌, ◌++◌, [], ◌∷◌, ◌↔◌, length, vec_capacity, None, Some, IsTrue, MatchOption, map, slice_get};
 ghost use Rattle.std.specs.List.{position};
 ghost use Rattle.std.specs.Ordering.{nat_cmp};
 ghost use Rattle.std.specs.FinMap.Entries.{is_sorted};
@@ -56,9 +56,8 @@ impl Processes {
     /// Whether the process stands where one was found last.
     #[inline(always)]
     fn is_near(&self, pid: Pid) -> bool
-        ensures found { IsTrue result → IfSome (slice_get self.now.list.items self.now.near)
-            (λ process. process.pid ≡ pid) }
-        ensures within { IsTrue result → self.now.near < length self.now.list.items }
+        ensures { IsTrue result
+            ↔ slice_get (map (λ process. process.pid) self.now.list.items) self.now.near ≡ Some pid }
     {
         match self.list.get(self.near) {
             Some(process) => process.pid == pid,
@@ -66,18 +65,12 @@ impl Processes {
         }
     }
 
-    /// Where the process stands. It is looked for there first from now on.
-    #[inline(always)]
-    pub fn find(&mut self, pid: Pid) -> Option<usize>
-        ensures found { MatchOption result
-            (get (map process_entry self.old.list.items) pid ≡ None)
-            (IsPlaceOf self.old.list.items pid) }
-        ensures first { result
-            ≡ position (λ process. process.pid == pid) self.old.list.items }
-        ensures same { self.new ≡ record self.old { near = self.new.near } }
+    /// Looks for the process where it stands before all other places, from now on.
+    pub fn find(&mut self, pid: Pid)
+        ensures { self.new ≡ record self.old { near = self.new.near } }
     {
-        let place = self.place_of(pid)?;
-        self.near = place;
-        Some(place)
+        if let Some(place) = self.place_of(pid) {
+            self.near = place;
+        }
     }
 }

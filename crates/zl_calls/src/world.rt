@@ -295,7 +295,7 @@ impl World {
     pub fn find(&mut self, pid: Pid)
         ensures { self.new ≡ self.old }
     {
-        let _ = self.processes.find(pid);
+        self.processes.find(pid);
     }
 
     /// What the process goes on with by itself: its program, and its Cpu as it stands.

@@ -79,21 +79,14 @@ fn is_same_code(one: &[Instr], other: &[Instr]) -> bool
 
 impl Instr {
     /// Whether the same 16 bytes spell both.
-    // Nearly all that are compared are one, which is seen without making bytes.
+    // Nearly all that are compared are local ones and the same, which is seen without making bytes.
     pub fn is_spelled_like(&self, other: &Instr) -> bool
         ensures { IsTrue result ↔ instr_bytes self.now ≡ instr_bytes other.now }
     {
-        are_same_locals(self, other) || self.to_bytes() == other.to_bytes()
-    }
-}
-
-/// Whether both are the same local instruction.
-fn are_same_locals(one: &Instr, other: &Instr) -> bool
-    ensures { IsTrue result → one.now ≡ other.now }
-{
-    match (one, other) {
-        (Instr::Local(one), Instr::Local(other)) => has_same_fields(one, other),
-        _ => false,
+        match (self, other) {
+            (Instr::Local(one), Instr::Local(other)) if has_same_fields(one, other) => true,
+            _ => self.to_bytes() == other.to_bytes(),
+        }
     }
 }
 
@@ -111,7 +104,7 @@ macro_rules! same_fields {
 
 /// Whether both are one local instruction, with the same in each field.
 fn has_same_fields(one: &LocalInstr, other: &LocalInstr) -> bool
-    ensures { IsTrue result → one.now ≡ other.now }
+    ensures { IsTrue result ↔ one.now ≡ other.now }
 {
     same_fields! {
         one other

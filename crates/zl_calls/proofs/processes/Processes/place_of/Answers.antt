@@ -19,8 +19,7 @@ returns-clause-found c = place_is c.args.self.now.list.items c.args.pid c.ok.res
 
 pub returns-then-is_near-clause-first : goal.returns-then-is_near-clause-first
 returns-then-is_near-clause-first c =
-    near_first c.args.self.now.list.items c.args.pid c.args.self.now.near c.args.self.now.in_order (c.is_near.ensures.within c.if-is_near.true)
-    (c.is_near.ensures.found c.if-is_near.true)
+    near_first c.args.self.now.list.items c.args.pid c.args.self.now.near c.args.self.now.in_order (c.is_near.ensures.0 c.if-is_near.true)
 
 pub returns-then-is_near-clause-found : goal.returns-then-is_near-clause-found
 returns-then-is_near-clause-found c =

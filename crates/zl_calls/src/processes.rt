@@ -56,8 +56,8 @@ impl Processes {
     /// Whether the process stands where one was found last.
     #[inline(always)]
     fn is_near(&self, pid: Pid) -> bool
-        ensures { IsTrue result
-            ↔ slice_get (map (λ process. process.pid) self.now.list.items) self.now.near ≡ Some pid }
+        ensures { IsTrue result ↔ slice_get (map (λ process. process.pid) self.now.list.items)
+            self.now.near ≡ Some pid }
     {
         match self.list.get(self.near) {
             Some(process) => process.pid == pid,

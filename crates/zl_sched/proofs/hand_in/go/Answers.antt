@@ -24,7 +24,8 @@ end-requires-clause-room c =
 pub returns : goal.returns
 returns c =
     let behind : EndsFrom (is_more c.args.done.stop) (advanced c.args.world.now c.args.done) c.push_run.new.items.items c.args.done.pid c.end.result
-    c.end.new.world c.end.new.items.items = rw (c.is_more-is_only_local.ensures, c.stop.ensures, c.advance-spent.ensures.cpu, c.pid-pid.ensures) at c.end.ensures in
+    c.end.new.world c.end.new.items.items
+    = rw (c.is_more-is_only_local.ensures, c.stop.ensures, c.advance-spent.ensures.cpu, c.pid-pid.ensures) at c.end.ensures in
     record {
       steps = rw c.advance-spent.ensures.cpu at c.advance-spent.ensures.steps;
       last = behind.last;

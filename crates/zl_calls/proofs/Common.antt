@@ -57,14 +57,14 @@ pub use Rattle.zl_calls.specs.Making.{AreSound, IsMaking, IsUnwatched, is_killed
 pub use Rattle.zl_calls.specs.Policed.{EndsBy, IsDenied, Policed, on_fault_by, verdict_by, verdict_in, verdict_on}
 unfoldable pub use Rattle.zl_calls.specs.Policed.{operands_fault}
 pub use Rattle.zl_calls.specs.Reaching.{CallActs, CalledAmong, IsAnsweredIn, IsToldIn, Reaches, acts, creates_process, kills, kills_itself, starts}
-pub use Rattle.zl_calls.specs.Started.{StepsAndTells, child_next, child_of, if_started, with_started}
+pub use Rattle.zl_calls.specs.Started.{StepsAndTells, child_next, child_of, if_started}
 pub use Rattle.zl_calls.specs.Steps.{Performs, StepsTo, TakesStep, takes_memory}
 pub use Rattle.zl_calls.specs.Sure.{CallsSurely, IsFaultless, IsSure, IsSureIfChecked, is_checked}
 pub use Rattle.zl_calls.specs.Taken.{AreKnown, IsKnown, IsNoted, NotesChild, NotesFor, NotesNext, NotesNextChild, NotesStarted, has_noted, is_end, is_gone}
 pub use Rattle.zl_calls.specs.Taken.{is_over_by, keeps_handles}
 pub use Rattle.zl_calls.specs.Turns.{Stands}
 pub use Rattle.zl_calls.specs.Waking.{HaveCounters, Wakes, WakesOne, WakesSleeper, awake, destinations_of, given_awake, without_taken}
-pub use Rattle.zl_calls.specs.Woke.{HaveLeft, StepsAndWakes, and_one}
+pub use Rattle.zl_calls.specs.Woke.{AreParted, HaveLeft, StepsAndWakes, pids_told, tells_all, times_among}
 pub use Rattle.zl_calls.specs.World.{CallsNext, IsPlaceOf, Machine, awaited_of, call_for, call_of, free_entry, free_of, held, is_ready_in, process_entry}
 pub use Rattle.zl_calls.specs.World.{process_value, stands_next, state_value, world_blocked, world_value}
 pub use Rattle.zl_calls.specs.calls.Answer.{Action, Blocks, ClosesEach, Does, DoesTaking, IsAnswered, IsRefusedBy, IsTold, Replies, Told, answered_in, answers}

@@ -1,5 +1,5 @@
 -- Who became ready behind a step, but for its process: those that woke, and the one that was started.
-use Rattle.std.specs.Prelude.{ℕ, ◌≡◌, Bool, true, false, ◌&&◌, Option, Some, None, if◌then◌else◌}
+use Rattle.std.specs.Prelude.{ℕ, Bool, true, false, ◌&&◌, Option, Some, None, if◌then◌else◌}
 use Rattle.zl_code.specs.Common.{Library, Map, Next, AtCall, Step, World, get, next_for, pid_of}
 use Rattle.zl_code.specs.CallTable.{Request, process_start}
 use Rattle.zl_code.specs.Tests.{koid_in}
@@ -13,7 +13,7 @@ use Rattle.zl_rights.specs.declared.entry.Entry.{Entry}
 use Rattle.zl_rights.specs.declared.status.Status.TheVariants as status
 use Rattle.zl_calls.specs.World.{Machine}
 use Rattle.zl_calls.specs.Steps.{TakesStep}
-use Rattle.zl_calls.specs.Woke.{HaveLeft, and_one}
+use Rattle.zl_calls.specs.Woke.{HaveLeft}
 use Rattle.zl_calls.specs.declared.waking.Woke.{Woke}
 
 -- ---- who is started
@@ -49,16 +49,10 @@ if_started x child = if tells_start x then child else None
 
 -- ---- behind a step
 
--- these woke, and this one was started
-abbrev pub with_started : Option ℕ → Woke → Woke
-with_started None w = w
-with_started (Some pid) w = and_one w pid
-
--- Behind the step of p these woke, who left the list of the blocked, and it is told of them and of the one that was started.
-pub record Tells (lib : Library) (w : World) (p : ℕ) (x : TraceItem) (after : World) (step : Step lib w p x after) (told : Woke) : Type 0 where
-  pub woke : Woke
-  pub left : HaveLeft step.settled.blocked woke after.blocked
-  pub is_told : told ≡ with_started (if_started x (child_next step.process.handles (next_for lib step.process))) woke
+-- Behind the step of p just these became ready, if all are told: those that left the list of the blocked, and the one that was started.
+abbrev pub Tells : (lib : Library) (w : World) (p : ℕ) (x : TraceItem) (after : World) → Step lib w p x after → Woke → Type 0
+Tells lib w p x after step told =
+    HaveLeft step.settled.blocked (if_started x (child_next step.process.handles (next_for lib step.process))) told after.blocked
 
 -- the item stands for one step of the process, which is ready, and these became ready behind it, but for the process
 pub record StepsAndTells (m : Machine) (pid : ℕ) (m2 : Machine) (x : TraceItem) (w : Woke) : Type 0 where

@@ -77,8 +77,8 @@ abbrev pub WakesSleeper : Sleeper → Bool → List Process → Objects → List
 WakesSleeper s true ps r ps2 r2 = (awaited_found (get (map process_entry ps) s.pid) ≡ Some s.awaited) × WakesOne s.pid true ps r ps2 r2 × KeepSleepers r r2
 WakesSleeper s false ps r ps2 r2 = (awaited_found (get (map process_entry ps) s.pid) ≡ Some s.awaited → ⊥) × (ps2 ≡ ps) × (r2 ≡ r)
 
--- each blocked process had its turn, in the order of the list, and these woke; nobody is listed for whom what it waits for is there
-pub record Wakes (ps : List Process) (r : Objects) (blocked : List ℕ) (w : Woke) (ps2 : List Process) (r2 : Objects) (blocked2 : List ℕ) : Type 0 where
+-- each blocked process had its turn, in the order of the list, and these woke, beside the one that was started; nobody is listed for whom what it waits for is there
+pub record Wakes (ps : List Process) (r : Objects) (blocked : List ℕ) (started : Option ℕ) (w : Woke) (ps2 : List Process) (r2 : Objects) (blocked2 : List ℕ) : Type 0 where
   pub wakes : world_blocked ps2 r2 blocked2 ≡ fold woken (world_blocked ps r blocked) blocked
   pub consistent : IsConsistent ps2 r2
   pub list : AreBlocked ps2 blocked2
@@ -86,4 +86,4 @@ pub record Wakes (ps : List Process) (r : Objects) (blocked : List ℕ) (w : Wok
   pub ordered : AreOrdered ps2 r2 blocked2
   pub held : map held ps2 ≡ map held ps
   pub none_due : All (λ s. is_due r2.objects s.awaited ≡ false) r2.sleepers
-  pub told : HaveLeft blocked w blocked2
+  pub told : HaveLeft blocked started w blocked2

@@ -1,9 +1,9 @@
 //! The list of the blocked processes: how a process comes into it, and how, after each step, those
 //! become ready whose wait is over, in the order in which they blocked.
 
-ghost use Rattle.std.specs.Prelude.{◌≡◌, ◌==◌, ◌<◌, ◌≤◌, ◌^◌, not, false, Some, IsTrue, length, map, is_some, slice_get, vec_capacity};
+ghost use Rattle.std.specs.Prelude.{[], ◌≡◌, ◌==◌, ◌<◌, ◌≤◌, ◌^◌, ◌++◌, ◌∷◌, not, true, false, Some, IsTrue, length, map, is_some, slice_get, vec_capacity};
 ghost use Rattle.std.specs.List.{filter, fold, position};
-ghost use Rattle.std.specs.Option.{option_map};
+ghost use Rattle.std.specs.Option.{option_map, option_to_list};
 ghost use Rattle.zl_rights.specs.Map.{get};
 ghost use Rattle.zl_rights.specs.Numbers.{meets};
 ghost use Rattle.zl_rights.specs.Wakes.{packet_values, woken};
@@ -17,7 +17,7 @@ ghost use Rattle.zl_calls.specs.Blocked.{AreBlocked, AreOrdered, AreSought, Stan
 ghost use Rattle.zl_calls.specs.Blocking.{FallsAsleep, awaited_found, tells_asleep, then_blocked};
 ghost use Rattle.zl_calls.specs.Consistent.{IsConsistent};
 ghost use Rattle.zl_calls.specs.Waking.{Wakes, WakesOne, WakesSleeper, HaveCounters, awake, awake_in, given_awake, seen_active, without_taken};
-ghost use Rattle.zl_calls.specs.Woke.{HaveLeft, and_one};
+ghost use Rattle.zl_calls.specs.Woke.{HaveLeft, tells_all, pids_told};
 ghost use Rattle.zl_rights.specs.World.{Process as ProcessValue};
 ghost use Rattle.zl_calls.specs.Calling.{world_in};
 ghost use Rattle.zl_calls.specs.World.{held, packet_registers, process_entry, signal_registers, state_value};
@@ -29,17 +29,85 @@ use zl_code::{Outcome, TraceItem};
 use zl_objects::{Awaited, Objects, Sleeper};
 use zl_rights::{Koid, Pid};
 
-/// Who woke behind a step; where the world tells it, with the process that the step started.
+/// Who became ready behind a step, but for its process: those that woke, and the one that it started.
 ///
 /// Source: own profile.
-#[derive(Clone, Copy, PartialEq, Eq, Debug)]
+#[derive(Drop)]
 pub enum Woke {
     /// No process.
     Nobody,
     /// This process alone.
     One(Pid),
-    /// Perhaps several. No clause says whom, or how many.
-    More,
+    /// These. The world wants their list back (`World::put_back`), as it has the room for the next one.
+    Several(WokeList),
+}
+
+impl Woke {
+    /// Nobody woke; this process was started, if there is one.
+    #[inline(always)]
+    pub(crate) fn of(started: Option<Pid>) -> Woke
+        ensures told { pids_told result ≡ option_to_list started }
+        ensures all { IsTrue (tells_all result) }
+    {
+        match started {
+            Some(pid) => Woke::One(pid),
+            None => Woke::Nobody,
+        }
+    }
+}
+
+/// A list of processes that became ready.
+///
+/// Source: own profile.
+#[derive(Drop)]
+pub struct WokeList {
+    /// Each once, in no order.
+    pub pids: Vec<Pid>,
+    /// Whether all are listed: where there was no room for one more, not all are.
+    pub whole: bool,
+}
+
+impl WokeList {
+    /// The process that was started, if there is one, in this empty list.
+    fn with(list: Vec<Pid>, started: Option<Pid>) -> WokeList
+        requires { list.items ≡ [] }
+        ensures { result.whole ≡ true → result.pids.items ≡ option_to_list started }
+    {
+        let mut woken = WokeList {
+            pids: list,
+            whole: true,
+        };
+        if let Some(pid) = started {
+            woken.note(pid);
+        }
+        woken
+    }
+
+    /// One more, if there is room.
+    fn note(&mut self, pid: Pid)
+        ensures { self.new.whole ≡ true → (self.old.whole ≡ true)
+            × (self.new.pids.items ≡ self.old.pids.items ++ pid ∷ []) }
+    {
+        if self.pids.len() == self.pids.capacity() {
+            self.whole = false;
+            return;
+        }
+        self.pids.push_reserved(pid);
+    }
+
+    /// Who that is; where it is one process or none, the objects get the list back.
+    fn told(self, objects: &mut Objects) -> Woke
+        ensures told { pids_told result ≡ self.pids.items }
+        ensures all { tells_all result ≡ true → self.whole ≡ true }
+        ensures unchanged { objects.new ≡ objects.old }
+    {
+        if !self.whole || self.pids.len() > 1 {
+            return Woke::Several(self);
+        }
+        let first = self.pids.first().copied();
+        objects.return_list(self.pids);
+        Woke::of(first)
+    }
 }
 
 /// The process becomes the last of the blocked, if the item tells of a call that blocked.
@@ -92,42 +160,52 @@ fn awaited_by(processes: &Processes, pid: Pid) -> Option<Awaited>
 /// gets its answer and leaves the list. It tells who did, looks at those alone that are listed at
 /// touched objects, unless not all are listed, and takes no memory.
 #[inline(always)]
-pub fn wake(processes: &mut Processes, objects: &mut Objects, blocked: &mut Vec<Pid>) -> Woke
+pub fn wake(
+    processes: &mut Processes,
+    objects: &mut Objects,
+    blocked: &mut Vec<Pid>,
+    started: Option<Pid>,
+) -> Woke
     requires consistent { IsConsistent processes.old.list.items objects.old }
     requires list { AreBlocked processes.old.list.items blocked.old.items }
     requires sought { AreSought processes.old.list.items objects.old }
     requires ordered { AreOrdered processes.old.list.items objects.old blocked.old.items }
-    ensures turns { Wakes processes.old.list.items objects.old blocked.old.items result
+    ensures turns { Wakes processes.old.list.items objects.old blocked.old.items started result
         processes.new.list.items objects.new blocked.new.items }
     ensures capacity { vec_capacity blocked.new ≡ vec_capacity blocked.old }
 {
     if objects.is_crowded() {
-        let woke = wake_each(processes, objects, blocked);
+        let woke = wake_each(processes, objects, blocked, started);
         objects.forget_sleepers();
         return woke;
     }
-    wake_listed(processes, objects, blocked)
+    wake_listed(processes, objects, blocked, started)
 }
 
 /// The same where all are listed: those that may wake are taken off the list one after another.
-fn wake_listed(processes: &mut Processes, objects: &mut Objects, blocked: &mut Vec<Pid>) -> Woke
+fn wake_listed(
+    processes: &mut Processes,
+    objects: &mut Objects,
+    blocked: &mut Vec<Pid>,
+    started: Option<Pid>,
+) -> Woke
     requires consistent { IsConsistent processes.old.list.items objects.old }
     requires list { AreBlocked processes.old.list.items blocked.old.items }
     requires sought { AreSought processes.old.list.items objects.old }
     requires ordered { StandInOrder processes.old.list.items objects.old blocked.old.items }
     requires all { objects.old.crowded ≡ false }
-    ensures turns { Wakes processes.old.list.items objects.old blocked.old.items result
+    ensures turns { Wakes processes.old.list.items objects.old blocked.old.items started result
         processes.new.list.items objects.new blocked.new.items }
     ensures capacity { vec_capacity blocked.new ≡ vec_capacity blocked.old }
 {
-    let mut woke = Woke::Nobody;
+    let mut woken = WokeList::with(objects.lend_list(), started);
     while let Some(sleeper) = objects.take_due() {
         if wake_sleeper(processes, objects, &sleeper) {
             remove_pid(blocked, sleeper.pid);
-            woke = and_one(woke, sleeper.pid);
+            woken.note(sleeper.pid);
         }
     }
-    woke
+    woken.told(objects)
 }
 
 /// The process wakes, if it is blocked on what it was listed for, which is there; whether it did.
@@ -165,7 +243,12 @@ fn place_of(blocked: &[Pid], pid: Pid) -> Option<usize>
 }
 
 /// The same, where perhaps not all are listed: each has its turn.
-fn wake_each(processes: &mut Processes, objects: &mut Objects, blocked: &mut Vec<Pid>) -> Woke
+fn wake_each(
+    processes: &mut Processes,
+    objects: &mut Objects,
+    blocked: &mut Vec<Pid>,
+    started: Option<Pid>,
+) -> Woke
     requires consistent { IsConsistent processes.old.list.items objects.old }
     requires list { AreBlocked processes.old.list.items blocked.old.items }
     ensures wakes { world_in processes.new objects.new blocked.new
@@ -175,31 +258,20 @@ fn wake_each(processes: &mut Processes, objects: &mut Objects, blocked: &mut Vec
     ensures held { map held processes.new.list.items ≡ map held processes.old.list.items }
     ensures capacity { vec_capacity blocked.new ≡ vec_capacity blocked.old }
     ensures asleep { KeepSleepers objects.old objects.new }
-    ensures told { HaveLeft blocked.old.items result blocked.new.items }
+    ensures told { HaveLeft blocked.old.items started result blocked.new.items }
 {
-    let mut woke = Woke::Nobody;
+    let mut woken = WokeList::with(objects.lend_list(), started);
     let mut place = 0;
     while place < blocked.len() {
         let pid = blocked[place];
         if wake_one(processes, objects, pid) {
             blocked.remove(place);
-            woke = and_one(woke, pid);
+            woken.note(pid);
         } else {
             place += 1;
         }
     }
-    woke
-}
-
-/// These, and one more.
-fn and_one(woke: Woke, pid: Pid) -> Woke
-    ensures { result ≡ and_one woke pid }
-{
-    match woke {
-        Woke::Nobody => Woke::One(pid),
-        Woke::One(_) => Woke::More,
-        Woke::More => Woke::More,
-    }
+    woken.told(objects)
 }
 
 /// One process, which is blocked; whether it woke.

@@ -237,13 +237,28 @@ impl World {
         }
         add_blocked(&mut self.blocked, pid, &item);
         fall_asleep(&self.processes, &mut self.objects, pid, &item);
+        let started = self.taken.started_by(&item);
         if self.objects.is_quiet() {
-            return Some((item, self.taken.with_started(&item, Woke::Nobody)));
+            return Some((item, Woke::of(started)));
         }
         fire_waits(&self.processes, &mut self.objects);
-        let woke = wake(&mut self.processes, &mut self.objects, &mut self.blocked);
+        let woke = wake(
+            &mut self.processes,
+            &mut self.objects,
+            &mut self.blocked,
+            started,
+        );
         self.objects.calm();
-        Some((item, self.taken.with_started(&item, woke)))
+        Some((item, woke))
+    }
+
+    /// Keeps the room of the list of who became ready for the next one.
+    pub fn put_back(&mut self, woke: Woke)
+        ensures { self.new ≡ self.old }
+    {
+        if let Woke::Several(woken) = woke {
+            self.objects.return_list(woken.pids);
+        }
     }
 
     /// Does the system call at which the process is, with all that follows from it.
@@ -261,9 +276,10 @@ impl World {
         ensures no_memory { result ≡ Outcome.Answered Status.NoMemory
             → IfSome (call_for self.old pid) (λ call. IsTrue (takes_memory call)) }
     {
-        let Some((item, _)) = self.step(pid) else {
+        let Some((item, woke)) = self.step(pid) else {
             unreachable!()
         };
+        self.put_back(woke);
         match item {
             TraceItem::Call { outcome, .. } => outcome,
             TraceItem::Run { .. } => unreachable!(),
@@ -280,9 +296,10 @@ impl World {
         requires no_call { call_for self.old pid ≡ None }
         ensures { StepsTo self.old (local_item pid result) self.new }
     {
-        let Some((item, _)) = self.step(pid) else {
+        let Some((item, woke)) = self.step(pid) else {
             unreachable!()
         };
+        self.put_back(woke);
         match item {
             TraceItem::Run { .. } => Local::Ran,
             TraceItem::Stuck { .. } => Local::Stuck,

@@ -1,12 +1,13 @@
 //! A task and what stands below it, listed without a look at all objects and without memory.
 
-ghost use Rattle.std.specs.Prelude.{ℕ, ◌≡◌, true, IsTrue};
+ghost use Rattle.std.specs.Prelude.{[], ℕ, ◌≡◌, true, IsTrue};
 ghost use Rattle.zl_objects.specs.Below.{is_one_of, HasBelow, HasTask};
 ghost use Rattle.zl_objects.specs.Index.{IsIndexed};
 
 use crate::children::Children;
 use crate::killing::parent_at;
 use crate::object::Object;
+use crate::objects::Objects;
 use std::collections::BTreeMap;
 use zl_jobs::Job;
 use zl_rights::Koid;
@@ -17,6 +18,31 @@ use zl_rights::Koid;
 pub struct TaskList {
     pub koids: Vec<Koid>,
     pub whole: bool,
+}
+
+impl Objects {
+    /// An empty list, in the room that kills list their tasks in: for each job and process, unless it was
+    /// lent before and not given back. It takes no memory.
+    ///
+    /// Source: own profile.
+    pub fn lend_list(&mut self) -> Vec<Koid>
+        ensures empty { result.items ≡ [] }
+        ensures unchanged { self.new ≡ self.old }
+    {
+        let none = Vec::new(*self.below.allocator());
+        let mut list = std::mem::replace(&mut self.below, none);
+        list.clear();
+        list
+    }
+
+    /// Keeps the room of the list for the next one.
+    ///
+    /// Source: own profile.
+    pub fn return_list(&mut self, list: Vec<Koid>)
+        ensures { self.new ≡ self.old }
+    {
+        self.below = list;
+    }
 }
 
 /// Lists the koid, if there is room for one more. Says whether there was.

@@ -22,22 +22,27 @@ fn world(alloc: Global, processes: &[(&str, u64)], in_job: u64) -> Result<World,
 }
 
 /// The processes that have turns, and who wakes behind each: the second blocks, and the third wakes it.
-const TURNS: [(Pid, Woke); 6] = [
-    (3, Woke::Nobody),
-    (3, Woke::Nobody),
-    (4, Woke::Nobody),
-    (2, Woke::Nobody),
-    (4, Woke::One(3)),
-    (5, Woke::Nobody),
+const TURNS: [(Pid, Option<Pid>); 6] = [
+    (3, None),
+    (3, None),
+    (4, None),
+    (2, None),
+    (4, Some(3)),
+    (5, None),
 ];
 
-/// Each of these processes has a turn, behind which just this became ready.
-fn tells(world: &mut World, turns: &[(Pid, Woke)]) -> Result<(), Fail> {
-    for (pid, woke) in turns {
-        let Some((_, told)) = world.step(*pid) else {
+/// Each of these processes has a turn, behind which just this one became ready.
+fn tells(world: &mut World, turns: &[(Pid, Option<Pid>)]) -> Result<(), Fail> {
+    for (pid, expected) in turns {
+        let Some((_, woke)) = world.step(*pid) else {
             return Err(Fail::from("the process isn't ready"));
         };
-        if told != *woke {
+        let told = match woke {
+            Woke::Nobody => None,
+            Woke::One(pid) => Some(pid),
+            Woke::Several(_) => return Err(Fail::from("several became ready")),
+        };
+        if told != *expected {
             return Err(Fail::from("another process became ready, or none"));
         }
     }
@@ -51,13 +56,13 @@ fn a_step_tells_who_woke(rt: HostRuntime) -> Result<(), Fail> {
 }
 
 /// The child becomes ready as it is started, and only then.
-const STARTING: [(Pid, Woke); 6] = [
-    (4, Woke::Nobody),
-    (4, Woke::Nobody),
-    (4, Woke::One(5)),
-    (5, Woke::Nobody),
-    (4, Woke::Nobody),
-    (4, Woke::Nobody),
+const STARTING: [(Pid, Option<Pid>); 6] = [
+    (4, None),
+    (4, None),
+    (4, Some(5)),
+    (5, None),
+    (4, None),
+    (4, None),
 ];
 
 #[test]
@@ -69,11 +74,11 @@ fn a_step_tells_whom_it_started(rt: HostRuntime) -> Result<(), Fail> {
 }
 
 /// The third process kills the first, for whose end the second waits.
-const KILLING: [(Pid, Woke); 4] = [
-    (3, Woke::Nobody),
-    (3, Woke::Nobody),
-    (4, Woke::One(3)),
-    (3, Woke::Nobody),
+const KILLING: [(Pid, Option<Pid>); 4] = [
+    (3, None),
+    (3, None),
+    (4, Some(3)),
+    (3, None),
 ];
 
 #[test]

@@ -1,13 +1,10 @@
 -- How often a koid stands in a list.
 use Rattle.zl_sched.proofs.Common.{Bool, IsTrue, List, Map, None, Some, [], and_parts, ap, arith, below_all, cases_Bool, eq-eqb, eqb-true, false, filter}
-use Rattle.zl_sched.proofs.Common.{filter-append, get, has_key, if◌then◌else◌, inl, inr, is_some, is_sorted, length, length-append, length-filter_both}
-use Rattle.zl_sched.proofs.Common.{list_any, map, nat_cmp, nat_lt, nat_tests, none-some, not, refl, subst, suc, sym, times-other, times-same, true, ℕ, ◌++◌}
-use Rattle.zl_sched.proofs.Common.{◌+◌, ◌==◌, ◌∙◌, ◌∷◌, ◌≡◌, ◌≤◌}
+use Rattle.zl_sched.proofs.Common.{get, has_key, if◌then◌else◌, inl, inr, is_some, is_sorted, length, length-filter_both}
+use Rattle.zl_sched.proofs.Common.{list_any, map, nat_cmp, nat_lt, nat_tests, none-some, not, refl, subst, suc, sym, times-other, times-same, true, ℕ}
+use Rattle.zl_sched.proofs.Common.{◌+◌, ◌==◌, ◌∷◌, ◌≡◌, ◌≤◌}
 use Rattle.zl_code.proofs.Changes.{times}
 use Rattle.zl_rights.proofs.MapEdits.{lower_missing}
-
-pub times-append : (k : ℕ) (xs ys : List ℕ) → times k (xs ++ ys) ≡ times k xs + times k ys
-times-append k xs ys = ap length (filter-append (λ q. q == k) xs ys) ∙ length-append (filter (λ q. q == k) xs) (filter (λ q. q == k) ys)
 
 -- what passes a test is counted
 pub any_counted : (p : ℕ → Bool) (xs : List ℕ) → list_any p xs ≡ nat_lt 0 (length (filter p xs))

@@ -150,7 +150,7 @@ module _ (s : System) (whole : IsWhole s) (d : Done) (awaited : IsAwaited s d) (
 
   pub goes_told : IsTold m2.world d.pid left s.ready c
   goes_told = told s.machine.world m2.world d.pid s.ready left so after_sound c
-      (changed_from mid.world s.machine.world d.pid m2.world c (λ k apart. keeps is_ready k)
+      (changed_from mid.world s.machine.world d.pid m2.world (λ k apart. keeps is_ready k) c
       (ends_changed (is_more d.stop) mid d.pid goes.last m2 goes.ends c mid_sound (keeps is_ready d.pid ∙ awaited.ready) goes.changes))
 
   pub accepted_whole : HasRoom s d → (ready2 : List ℕ) → ready2 ≡ requeued m2.world d.pid left s.ready

@@ -15,6 +15,7 @@ pub mod MarksMoved
 pub mod Queued
 pub mod ReadyChange
 pub mod ReadyProcess
+pub mod Rising
 pub mod RowsHandIn
 pub mod TurnQueued
 pub mod TurnTold

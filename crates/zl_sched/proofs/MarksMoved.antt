@@ -4,7 +4,7 @@ use Rattle.zl_sched.proofs.Common.{false, false≢true, get, if◌then◌else◌
 use Rattle.zl_sched.proofs.Common.{nat_tests, not, on_process, others_of, queued_after, refl, subst, suc, sym, times-other, times_in, true, ℕ, ◌&&◌, ◌++◌, ◌+◌}
 use Rattle.zl_sched.proofs.Common.{◌==◌, ◌∙◌, ◌∷◌, ◌≡◌, ◌≤◌}
 use Rattle.zl_sched.proofs.Common.{drop, get_or, ◌<◌}
-use Rattle.zl_sched.proofs.Counted.{times-append}
+use Rattle.zl_calls.proofs.lists.Positions.{times-append}
 use Rattle.zl_sched.proofs.Marked.{some_mark, no_mark, counted_mark, listed_but, listed_by, self_unmarked, others_marked, fewer_marks, left_marked}
 use Rattle.zl_sched.proofs.Marked.{shorter, times_self, times_none}
 use Rattle.zl_sched.proofs.MarksKept.{marked_stays, marked_known, over_not_ready, state_kept, ready_passes}

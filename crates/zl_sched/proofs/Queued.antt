@@ -3,35 +3,28 @@ use Rattle.zl_sched.proofs.Common.{Bool, Change, IsSound, IsTold, IsTrue, List, 
 use Rattle.zl_sched.proofs.Common.{cases_Bool, drop, eq-eqb, eqb-true, false, false≢true, filter, filter-append, get, get_or, has_key, if◌then◌else◌, inl, inr}
 use Rattle.zl_sched.proofs.Common.{is_in, is_process, is_ready, is_some, itself_ready, joins, length, length-append, length-filter_both, list_any, nat_lt}
 use Rattle.zl_sched.proofs.Common.{nat_tests, none-some, none_filtered, not, one_if, pids_of, position, position_or_len, queued_after, ready_by_koid, refl}
-use Rattle.zl_sched.proofs.Common.{replicate, requeued, slice_get, state_passes, still_ready, subst, suc, sym, take, take-append-drop, take_all, take_more}
-use Rattle.zl_sched.proofs.Common.{times_in, true, woken_but, ℕ, ◌&&◌, ◌++◌, ◌+◌, ◌-◌, ◌<◌, ◌==◌, ◌∙◌, ◌∷◌, ◌≡◌, ◌≤◌, []}
+use Rattle.zl_sched.proofs.Common.{requeued, slice_get, state_passes, still_ready, subst, suc, sym, take, take-append-drop, take_all, take_more}
+use Rattle.zl_sched.proofs.Common.{times_in, true, ℕ, ◌&&◌, ◌++◌, ◌+◌, ◌-◌, ◌<◌, ◌==◌, ◌∙◌, ◌∷◌, ◌≡◌, ◌≤◌, []}
 use Rattle.std.proofs.lemmas.Map.Views.{any-filter_same}
 use Rattle.zl_sched.specs.declared.change.Change.TheVariants as change
-use Rattle.zl_sched.proofs.ReadyChange.{IsChanged, OthersCome, OthersReady}
+use Rattle.zl_sched.proofs.ReadyChange.{IsChanged, OthersCome, StayReady}
 use Rattle.std.proofs.lemmas.Option.{slice_get_within, get_or_from_slice_get}
 use Rattle.std.proofs.Math.Bool.{and-false}
-use Rattle.zl_calls.proofs.lists.Positions.{times-filter}
-use Rattle.zl_sched.proofs.Counted.{times-append, any_counted, key_once, no_longer}
+use Rattle.zl_calls.proofs.lists.Positions.{times-append, times-filter}
+use Rattle.zl_sched.proofs.Counted.{any_counted, key_once, no_longer}
 use Rattle.zl_sched.proofs.Marked.{AreBut, no_mark}
 use Rattle.zl_verify.proofs.OwnTable.{other_way}
+use Rattle.zl_sched.proofs.Common.{joining, pids_told, others_of, ◌⊎◌}
 
 -- ---- filters
 
-none_passes : (xs : List ℕ) → filter (λ k. false) xs ≡ []
-none_passes [] = refl
-none_passes (x ∷ xs) = none_passes xs
-
-one_passes : (q : ℕ) (xs : List ℕ) → times_in q xs ≡ 1 → filter (λ k. k == q) xs ≡ q ∷ []
-one_passes q xs once = all_alike xs ∙ ap (λ (n : ℕ). replicate n q) once
+-- a list in which nothing stands is empty
+pub none_counted : (xs : List ℕ) → ((k : ℕ) → ◌≡◌ {A = ℕ} (times_in k xs) 0) → xs ≡ []
+none_counted [] none = refl
+none_counted (x ∷ xs) none = absurd (omega (arith, none x, front))
   where
-    by_test : (x : ℕ) (ys : List ℕ) (b : Bool) → (x == q) ≡ b → ys ≡ replicate (length ys) q
-        → (if b then x ∷ ys else ys) ≡ replicate (length (if b then x ∷ ys else ys)) q
-    by_test x ys true here e = (λ i. eqb-true x q here i ∷ e i)
-    by_test x ys false here e = e
-
-    all_alike : (ys : List ℕ) → filter (λ k. k == q) ys ≡ replicate (times_in q ys) q
-    all_alike [] = refl
-    all_alike (x ∷ ys) = by_test x (filter (λ k. k == q) ys) (x == q) refl (all_alike ys)
+    front : times_in x (x ∷ xs) ≡ 1 + times_in x xs
+    front = rw (eq-eqb x x refl) (omega arith)
 
 -- tests that agree on what stands in the list
 alike : (f g : ℕ → Bool) (xs : List ℕ) → ((k : ℕ) → 0 < times_in k xs → f k ≡ g k) → filter f xs ≡ filter g xs
@@ -217,51 +210,46 @@ module _ (w after : World) (p : ℕ) (list out : List ℕ) (b : Before w after p
       by_test true d h = refl
       by_test false d h = absurd (omega (arith, h))
 
-  still : (who : Option ℕ) → OthersReady w p after who → still_ready after p list ≡ filter (λ q. not (q == p)) list
-  still who o = alike (λ q. is_process after is_ready q && not (q == p)) (λ q. not (q == p)) list by_place
+  still : StayReady w p after → still_ready after p list ≡ filter (λ q. not (q == p)) list
+  still stay = alike (λ q. is_process after is_ready q && not (q == p)) (λ q. not (q == p)) list by_place
     where
       by_place : (k : ℕ) → 0 < times_in k list → (is_process after is_ready k && not (k == p)) ≡ not (k == p)
       by_place k some = elim (cases_Bool (k == p)) as (λ _. (is_process after is_ready k && not (k == p)) ≡ not (k == p)) [
         | inl here ↦ rw here (and-false (is_process after is_ready k))
-        | inr apart ↦ rw (apart, o.stay k apart (in_list k apart some)) refl
+        | inr apart ↦ rw (apart, stay k apart (in_list k apart some)) refl
       ]
 
-  -- who comes, if the others that come are just those that pass
-  comes_by : (f : ℕ → Bool) → f p ≡ false → ((k : ℕ) → (k == p) ≡ false → (is_process after is_ready k && not (is_process w is_ready k)) ≡ f k)
-      → became_ready w after ≡ filter f (pids_of after)
-  comes_by f itself others = λ i. filter (λ k. by_place k i) (pids_of after)
+  -- those that join are those that come, but for p
+  joining_is : IsSound after → (who : List ℕ) → OthersCome w p after who → (k : ℕ)
+      → times_in k (joining after p out (still_ready after p list)) ≡ times_in k (others_of p who)
+  joining_is sound who come k =
+      times-filter (λ q. joins after p out (still_ready after p list) q) k (pids_of after)
+      ∙ (rw (joins_is k) (by_place (cases_Bool (k == p)))
+      ∙ sym (times-filter (λ q. not (q == p)) k who))
     where
-      by_place : (k : ℕ) → (is_process after is_ready k && not (is_process w is_ready k)) ≡ f k
-      by_place k = elim (cases_Bool (k == p)) as (λ _. (is_process after is_ready k && not (is_process w is_ready k)) ≡ f k) [
-        | inl here ↦ rw (ready_itself k here, eqb-true k p here, itself) (and-false (is_process after is_ready p))
-        | inr apart ↦ others k apart
-      ]
+      none_more : (now was : Bool) (n : ℕ) → was ≡ true → ◌≡◌ {A = ℕ} (if now && not was then n else 0) 0
+      none_more true true n is = refl
+      none_more true false n is = absurd (false≢true is)
+      none_more false was n is = refl
 
-  joined : IsSound after → (who : Option ℕ) → OthersCome w p after who → became_ready w after ≡ woken_but p who
-  joined sound None come = comes_by (λ k. false) refl come ∙ none_passes (pids_of after)
-  joined sound (Some q) come = elim (cases_Bool (q == p)) as (λ _. became_ready w after ≡ one_if (not (q == p)) q) [
-    | inl here ↦ rw here
-        (comes_by (λ k. false) refl (λ k apart. come k apart ∙ (ap (λ (j : ℕ). k == j) (eqb-true q p here) ∙ apart)) ∙ none_passes (pids_of after))
-    | inr apart ↦
-        let now : is_process after is_ready q ≡ true = first_of (is_process after is_ready q) _ (come q apart ∙ eq-eqb q q refl) in
-        rw apart
-        (comes_by (λ k. k == q) (other_way q p apart) come
-        ∙ one_passes q (pids_of after) (key_once q after.processes sound.handles.processes (ready_key after q now)))
-  ]
-    where
-      first_of : (c d : Bool) → (c && d) ≡ true → c ≡ true
-      first_of true d e = refl
-      first_of false d e = absurd (false≢true e)
+      one_more : (now was : Bool) (n : ℕ) → (now ≡ true → n ≡ 1) → ◌≡◌ {A = ℕ} (if now && not was then n else 0) (if now && not was then 1 else 0)
+      one_more true true n once = refl
+      one_more true false n once = once refl
+      one_more false was n once = refl
 
-  few_told : IsSound after → (who : Option ℕ) → OthersReady w p after who
-      → requeued after p out list ≡ filter (λ q. not (q == p)) list ++ (woken_but p who ++ itself_ready after p)
-  few_told sound who o = requeued_is ∙ (λ i. still who o i ++ (joined sound who o.come i ++ itself_ready after p))
+      by_place : ((k == p) ≡ true) ⊎ ((k == p) ≡ false)
+          → (if is_process after is_ready k && not (is_process w is_ready k) then times_in k (pids_of after) else 0)
+          ≡ (if not (k == p) then times_in k who else 0)
+      by_place (inl here) = none_more (is_process after is_ready k) (is_process w is_ready k) (times_in k (pids_of after)) (ready_itself k here)
+          ∙ rw here refl
+      by_place (inr apart) = one_more (is_process after is_ready k) (is_process w is_ready k) (times_in k (pids_of after))
+          (λ now. key_once k after.processes sound.handles.processes (ready_key after k now)) ∙ (sym (come k apart) ∙ rw apart refl)
 
   pub told : IsSound after → (c : Change) → IsChanged w p after c → IsTold after p out list c
-  told sound change.Nobody (o, ready) = few_told sound None o ∙ rw ready refl
-  told sound (change.Few who) o = few_told sound who o
-  told sound (change.Fewer who) come = requeued_is ∙ ap (λ (ks : List ℕ). still_ready after p list ++ (ks ++ itself_ready after p)) (joined sound who come)
-  told sound change.Any o = tt
+  told sound change.Nobody (stay, come, ready) =
+      rw (none_counted _ (joining_is sound [] come), ready) (ap (λ (ks : List ℕ). ks ++ (p ∷ [])) (still stay))
+  told sound (change.Few who) (stay, come) = (still stay, λ all. joining_is sound (pids_told who) (come all))
+  told sound (change.Fewer who) come = λ all. joining_is sound (pids_told who) (come all)
 
 -- the last of a list in which it stands once stays where it is
 pub last_stays : (p : ℕ) (xs : List ℕ) → times_in p (xs ++ (p ∷ [])) ≡ 1 → xs ++ (p ∷ []) ≡ filter (λ q. not (q == p)) (xs ++ (p ∷ [])) ++ (p ∷ [])

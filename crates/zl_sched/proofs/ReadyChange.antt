@@ -1,59 +1,61 @@
 -- What a step changes of who is ready: nobody but those that woke, the one that it started, and those that it killed.
-use Rattle.zl_sched.proofs.Common.{Acts, AtCall, Bool, CallName, Change, HaveLeft, IsSound, IsStuck, Library, Moves, Next, None, Option, Outcome, Process}
+use Rattle.zl_sched.proofs.Common.{Acts, AtCall, Bool, CallName, Change, IsSound, IsStuck, Library, Moves, Next, None, Option, Outcome, Process}
 use Rattle.zl_sched.proofs.Common.{Ready, Request, Some, State, Step, Tells, TraceItem, Woke, World, and_parts, ap, asked_next, cases_Bool, change_of}
 use Rattle.zl_sched.proofs.Common.{child_next, child_of, eqb-true, false, false≢true, few_if, get, if_started, if◌then◌else◌, inl, inr, is_blocked, is_ok}
 use Rattle.zl_sched.proofs.Common.{is_process, is_ready, is_start, leaves_others, leaves_ready, may_kill, name_of, next_for, none-some, not, not-false}
 use Rattle.zl_sched.proofs.Common.{not-true, refl, refusal, settled_sound, state_passes, step_sound, subst, sym, task_kill, tells_start, true, wakes}
-use Rattle.zl_sched.proofs.Common.{with_started, ℕ, ⊤, ◌&&◌, ◌==◌, ◌∙◌, ◌≡◌, ◌⊎◌}
+use Rattle.zl_sched.proofs.Common.{ℕ, ◌&&◌, ◌==◌, ◌∙◌, ◌≡◌}
 use Rattle.zl_code.specs.declared.history.CallName.TheVariants as name
 use Rattle.zl_code.specs.declared.history.Outcome.TheVariants as outcome
 use Rattle.zl_code.specs.declared.history.TraceItem.TheVariants as item
 use Rattle.zl_calls.specs.declared.waking.Woke.TheVariants as woke
 use Rattle.zl_sched.specs.declared.change.Change.TheVariants as change
 use Rattle.zl_sched.proofs.ChildReady.{child_ready}
-use Rattle.zl_sched.proofs.StillReady.{AsOrWoken, Left, Less, called_so, ends, goes_on, is_one, killed_so, left_so, left_then, less_then, moved, settled_so}
-use Rattle.zl_sched.proofs.StillReady.{spares_so, waking, woke_one}
+use Rattle.zl_sched.proofs.StillReady.{AsOrWoken, Left, Less, called_so, ends, goes_on, is_one, killed_so, left_then, less_then, moved, settled_so}
+use Rattle.zl_sched.proofs.StillReady.{spares_so, waking}
 use Rattle.zl_code.proofs.Entering.{no_process}
 use Rattle.zl_verify.proofs.OwnTable.{other_way}
+use Rattle.zl_sched.proofs.Common.{AreParted, List, [], arith, eq-eqb, option_to_list, pids_told, tells_all, is_nobody, times_in, ◌+◌}
+use Rattle.zl_sched.proofs.Common.{◌∷◌}
 
--- But for p, nobody is ready in after who isn't in w but this one, who is.
-abbrev pub OthersCome : World → ℕ → World → Option ℕ → Type 0
-OthersCome w p after who = (k : ℕ) → (k == p) ≡ false → (is_process after is_ready k && not (is_process w is_ready k)) ≡ is_one who k
+-- but for p, those stay ready that are
+abbrev pub StayReady : World → ℕ → World → Type 0
+StayReady w p after = (k : ℕ) → (k == p) ≡ false → is_process w is_ready k ≡ true → is_process after is_ready k ≡ true
 
--- The same, and those stay ready that are.
-pub record OthersReady (w : World) (p : ℕ) (after : World) (who : Option ℕ) : Type 0 where
-  pub stay : (k : ℕ) → (k == p) ≡ false → is_process w is_ready k ≡ true → is_process after is_ready k ≡ true
-  pub come : OthersCome w p after who
+-- but for p, just these are ready in after who aren't in w
+abbrev pub OthersCome : World → ℕ → World → List ℕ → Type 0
+OthersCome w p after who =
+    (k : ℕ) → (k == p) ≡ false → times_in k who ≡ (if is_process after is_ready k && not (is_process w is_ready k) then 1 else 0)
+
+-- the same, if all are told
+abbrev pub ToldCome : World → ℕ → World → Woke → Type 0
+ToldCome w p after who = tells_all who ≡ true → OthersCome w p after (pids_told who)
 
 -- the change of a step of p from w to after is so much
 abbrev pub IsChanged : World → ℕ → World → Change → Type 0
-IsChanged w p after change.Nobody = OthersReady w p after None × (is_process after is_ready p ≡ true)
-IsChanged w p after (change.Few who) = OthersReady w p after who
-IsChanged w p after (change.Fewer who) = OthersCome w p after who
-IsChanged w p after change.Any = ⊤
+IsChanged w p after change.Nobody = StayReady w p after × OthersCome w p after [] × (is_process after is_ready p ≡ true)
+IsChanged w p after (change.Few who) = StayReady w p after × ToldCome w p after who
+IsChanged w p after (change.Fewer who) = ToldCome w p after who
 
 -- likewise from a world in which the others are as ready
-come_from : (u w : World) (p : ℕ) (after : World) (who : Option ℕ) → ((k : ℕ) → (k == p) ≡ false → is_process u is_ready k ≡ is_process w is_ready k)
-    → OthersCome u p after who → OthersCome w p after who
-come_from u w p after who same come k apart = ap (λ (b : Bool). is_process after is_ready k && not b) (sym (same k apart)) ∙ come k apart
+module _ (u w : World) (p : ℕ) (after : World) (same : (k : ℕ) → (k == p) ≡ false → is_process u is_ready k ≡ is_process w is_ready k) where
+  come_from : (who : List ℕ) → OthersCome u p after who → OthersCome w p after who
+  come_from who come k apart = come k apart ∙ ap (λ (b : Bool). if is_process after is_ready k && not b then 1 else 0) (same k apart)
 
-others_from : (u w : World) (p : ℕ) (after : World) (who : Option ℕ) → ((k : ℕ) → (k == p) ≡ false → is_process u is_ready k ≡ is_process w is_ready k)
-    → OthersReady u p after who → OthersReady w p after who
-others_from u w p after who same o = record { stay = λ k apart now. o.stay k apart (same k apart ∙ now); come = come_from u w p after who same o.come }
+  stay_from : StayReady u p after → StayReady w p after
+  stay_from stay k apart now = stay k apart (same k apart ∙ now)
 
-pub changed_from : (u w : World) (p : ℕ) (after : World) (c : Change) → ((k : ℕ) → (k == p) ≡ false → is_process u is_ready k ≡ is_process w is_ready k)
-    → IsChanged u p after c → IsChanged w p after c
-changed_from u w p after change.Nobody same (o, ready) = (others_from u w p after None same o, ready)
-changed_from u w p after (change.Few who) same o = others_from u w p after who same o
-changed_from u w p after (change.Fewer who) same come = come_from u w p after who same come
-changed_from u w p after change.Any same o = tt
+  pub changed_from : (c : Change) → IsChanged u p after c → IsChanged w p after c
+  changed_from change.Nobody (stay, come, ready) = (stay_from stay, come_from [] come, ready)
+  changed_from (change.Few who) (stay, come) = (stay_from stay, λ all. come_from (pids_told who) (come all))
+  changed_from (change.Fewer who) come = λ all. come_from (pids_told who) (come all)
 
 and_not : (b : Bool) → (b && not b) ≡ false
 and_not true = refl
 and_not false = refl
 
 pub unchanged : (w : World) (p : ℕ) → is_process w is_ready p ≡ true → IsChanged w p w change.Nobody
-unchanged w p ready = (record { stay = λ k apart now. now; come = λ k apart. and_not (is_process w is_ready k) }, ready)
+unchanged w p ready = (λ k apart now. now, λ k apart. rw (and_not (is_process w is_ready k)) refl, ready)
 
 stops_so : (p : ℕ) (call : CallName) (o : Outcome) → goes_on o ≡ false → leaves_ready (item.Call p call o) ≡ false
 stops_so p call (outcome.Answered answer) stops = absurd (false≢true (sym stops))
@@ -133,36 +135,27 @@ module _ (lib : Library) (w : World) (p : ℕ) (x : TraceItem) (after : World) (
       by_turns (inl same) = same is_ready ∙ ready
       by_turns (inr (was, is)) = is is_ready
 
-  come_so : (who : Option ℕ) → HaveLeft step.settled.blocked (woke_one who) after.blocked → (k : ℕ)
-      → (is_process after is_ready k && not (is_process step.settled is_ready k)) ≡ is_one who k
+  -- who is ready and wasn't left the list of the blocked, but for the one that was started
+  come_so : (started : Option ℕ) (told : List ℕ) → AreParted step.settled.blocked started told after.blocked → (k : ℕ)
+      → ◌≡◌ {A = ℕ} (times_in k (option_to_list started)) 0
+      → times_in k told ≡ (if is_process after is_ready k && not (is_process step.settled is_ready k) then 1 else 0)
   unfolding is_process
-  come_so who left k =
-      by_turns after (subst (AsOrWoken k step.settled) (sym step.ends_awake) (waking k step.settled))
-      ∙ left_so who step.settled.blocked after.blocked k _ _ (settled_is.blocked k) ((step_sound lib w p x after sound step).blocked k) left
+  come_so started told parted k none = by_turns after (subst (AsOrWoken k step.settled) (sym step.ends_awake) (waking k step.settled))
+      ((step_sound lib w p x after sound step).blocked k) (parted k)
     where
-      by_turns : (v : World) → AsOrWoken k step.settled v
-          → (is_process v is_ready k && not (is_process step.settled is_ready k)) ≡ (is_process step.settled is_blocked k && not (is_process v is_blocked k))
-      by_turns v (inl same) = rw (same is_ready, same is_blocked)
-          (and_not (is_process step.settled is_ready k) ∙ sym (and_not (is_process step.settled is_blocked k)))
-      by_turns v (inr (was, is)) = rw (is is_ready, is is_blocked, was, busy_so (get step.settled.processes k) was) refl
-
-  -- ---- where it kills nobody
-
-  module _ (others : leaves_others x ≡ true) where
-    same_before : (k : ℕ) → is_one child k ≡ false → (leaves_ready x ≡ false → (p == k) ≡ false) → is_process step.settled is_ready k ≡ is_process w is_ready k
-    same_before k other apart =
-        left_then k _ _ w (settled_so k step.acted step.settled step.settles)
-        (acted_so k (next_for lib step.process) refl step.acts others other apart) is_ready refl refl
-
-    few : child ≡ None → (who : Option ℕ) → HaveLeft step.settled.blocked (woke_one who) after.blocked → OthersReady w p after who
-    few none who left = others_from step.settled w p after who
-        (λ k apart. same_before k (ap (λ c. is_one c k) none) (λ _. other_way k p apart))
-        (record { stay = λ k apart. stay_so k; come = λ k apart. come_so who left k })
-
-    itself : child ≡ None → leaves_ready x ≡ true → is_process after is_ready p ≡ true
-    unfolding is_process
-    itself none leaves =
-        stay_so p (same_before p (ap (λ c. is_one c p) none) (λ stops. absurd (false≢true (sym stops ∙ leaves))) ∙ rw (step.is_there, step.is_ready) refl)
+      by_turns : (v : World) → AsOrWoken k step.settled v → times_in k v.blocked ≡ (if is_process v is_blocked k then 1 else 0)
+          → times_in k told + times_in k v.blocked ≡ times_in k step.settled.blocked + times_in k (option_to_list started)
+          → times_in k told ≡ (if is_process v is_ready k && not (is_process step.settled is_ready k) then 1 else 0)
+      by_turns v (inl same) is left = rw (same is_ready, and_not (is_process step.settled is_ready k)) (omega (
+        arith,
+        left,
+        none,
+        is ∙ (ap (λ (b : Bool). if b then 1 else 0) (same is_blocked) ∙ sym (settled_is.blocked k)),
+      ))
+      by_turns v (inr (was, now)) is left =
+          let gone : ◌≡◌ {A = ℕ} (times_in k v.blocked) 0 = is ∙ rw (now is_blocked) refl in
+          let there : ◌≡◌ {A = ℕ} (times_in k step.settled.blocked) 1 = settled_is.blocked k ∙ rw was refl in
+          rw (now is_ready, busy_so (get step.settled.processes k) was) (omega (arith, left, none, gone, there))
 
   -- ---- where it starts one
 
@@ -182,24 +175,77 @@ module _ (lib : Library) (w : World) (p : ℕ) (x : TraceItem) (after : World) (
     begins : (is_process step.acted is_ready q ≡ true) × (is_process w is_ready q ≡ false)
     begins = begun (next_for lib step.process) refl step.acts (if_some (tells_start x) _ q some).1
 
+    settled_ready : is_process step.settled is_ready q ≡ true
+    settled_ready = settled_so q step.acted step.settled step.settles is_ready refl refl ∙ begins.0
+
     now_ready : is_process after is_ready q ≡ true
-    now_ready = stay_so q (settled_so q step.acted step.settled step.settles is_ready refl refl ∙ begins.0)
+    now_ready = stay_so q settled_ready
 
-    one_more : HaveLeft step.settled.blocked woke.Nobody after.blocked → OthersReady w p after (Some q)
-    one_more left = record { stay = λ k apart now. stays k apart (cases_Bool (k == q)) now; come = λ k apart. comes k apart (cases_Bool (k == q)) }
+    -- it is told once
+    child_comes : (list : List ℕ) → AreParted step.settled.blocked (Some q) list after.blocked
+        → times_in q list ≡ (if is_process after is_ready q && not (is_process w is_ready q) then 1 else 0)
+    unfolding is_process
+    child_comes list parted = rw (now_ready, begins.1) (by_turns after
+        (subst (AsOrWoken q step.settled) (sym step.ends_awake) (waking q step.settled)) ((step_sound lib w p x after sound step).blocked q) (parted q))
       where
-        same : (k : ℕ) → (k == p) ≡ false → (k == q) ≡ false → is_process step.settled is_ready k ≡ is_process w is_ready k
-        same k apart other = same_before (start_spares x told) k (ap (λ c. is_one c k) some ∙ other) (λ _. other_way k p apart)
+        itself : times_in q (q ∷ []) ≡ 1
+        itself = rw (eq-eqb q q refl) refl
 
-        stays : (k : ℕ) → (k == p) ≡ false → ((k == q) ≡ true) ⊎ ((k == q) ≡ false) → is_process w is_ready k ≡ true → is_process after is_ready k ≡ true
-        stays k apart (inl here) now = subst (λ (j : ℕ). is_process after is_ready j ≡ true) (sym (eqb-true k q here)) now_ready
-        stays k apart (inr other) now = stay_so k (same k apart other ∙ now)
+        by_turns : (v : World) → AsOrWoken q step.settled v → times_in q v.blocked ≡ (if is_process v is_blocked q then 1 else 0)
+            → times_in q list + times_in q v.blocked ≡ times_in q step.settled.blocked + times_in q (q ∷ []) → ◌≡◌ {A = ℕ} (times_in q list) 1
+        by_turns v (inl same) is left = omega (
+          arith,
+          left,
+          itself,
+          is ∙ (ap (λ (b : Bool). if b then 1 else 0) (same is_blocked) ∙ sym (settled_is.blocked q)),
+        )
+        by_turns v (inr (was, now)) is left = absurd (false≢true (sym (busy_so (get step.settled.processes q) was) ∙ settled_ready))
 
-        comes : (k : ℕ) → (k == p) ≡ false → ((k == q) ≡ true) ⊎ ((k == q) ≡ false) → (is_process after is_ready k && not (is_process w is_ready k)) ≡ (k == q)
-        comes k apart (inl here) =
-            (λ i. is_process after is_ready (eqb-true k q here i) && not (is_process w is_ready (eqb-true k q here i)))
-            ∙ (rw (now_ready, begins.1) refl ∙ sym here)
-        comes k apart (inr other) = sym (ap (λ (b : Bool). is_process after is_ready k && not b) (same k apart other)) ∙ (come_so None left k ∙ sym other)
+  -- the process that was started isn't p
+  not_child : is_one child p ≡ false
+  unfolding is_process
+  not_child = by_child child refl
+    where
+      by_child : (c : Option ℕ) → child ≡ c → is_one c p ≡ false
+      by_child None none = refl
+      by_child (Some q) some = elim (cases_Bool (p == q)) as (λ _. (p == q) ≡ false) [
+        | inl here ↦ absurd (false≢true (sym (begins q some).1 ∙ subst (λ (j : ℕ). is_process w is_ready j ≡ true) (eqb-true p q here)
+            (rw (step.is_there, step.is_ready) refl)))
+        | inr apart ↦ apart
+      ]
+
+  -- ---- where it kills nobody
+
+  module _ (others : leaves_others x ≡ true) where
+    same_before : (k : ℕ) → is_one child k ≡ false → (leaves_ready x ≡ false → (p == k) ≡ false) → is_process step.settled is_ready k ≡ is_process w is_ready k
+    same_before k other apart =
+        left_then k _ _ w (settled_so k step.acted step.settled step.settles)
+        (acted_so k (next_for lib step.process) refl step.acts others other apart) is_ready refl refl
+
+    itself : leaves_ready x ≡ true → is_process after is_ready p ≡ true
+    unfolding is_process
+    itself leaves =
+        stay_so p (same_before p not_child (λ stops. absurd (false≢true (sym stops ∙ leaves))) ∙ rw (step.is_there, step.is_ready) refl)
+
+    stays_by : (c : Option ℕ) → child ≡ c → StayReady w p after
+    stays_by None none k apart now = stay_so k (same_before k (ap (λ c. is_one c k) none) (λ _. other_way k p apart) ∙ now)
+    stays_by (Some q) some k apart now = elim (cases_Bool (k == q)) as (λ _. is_process after is_ready k ≡ true) [
+      | inl here ↦ subst (λ (j : ℕ). is_process after is_ready j ≡ true) (sym (eqb-true k q here)) (now_ready q some)
+      | inr other ↦ stay_so k (same_before k (ap (λ c. is_one c k) some ∙ other) (λ _. other_way k p apart) ∙ now)
+    ]
+
+    comes_by : (c : Option ℕ) → child ≡ c → (list : List ℕ) → AreParted step.settled.blocked c list after.blocked → OthersCome w p after list
+    comes_by None none list parted k apart = come_so None list parted k refl
+        ∙ ap (λ (b : Bool). if is_process after is_ready k && not b then 1 else 0)
+        (same_before k (ap (λ c. is_one c k) none) (λ _. other_way k p apart))
+    comes_by (Some q) some list parted k apart = elim (cases_Bool (k == q)) as
+        (λ _. times_in k list ≡ (if is_process after is_ready k && not (is_process w is_ready k) then 1 else 0)) [
+          | inl here ↦ subst (λ (j : ℕ). times_in j list ≡ (if is_process after is_ready j && not (is_process w is_ready j) then 1 else 0))
+              (sym (eqb-true k q here)) (child_comes q some list parted)
+          | inr other ↦ come_so (Some q) list parted k (rw (other_way k q other) refl)
+              ∙ ap (λ (b : Bool). if is_process after is_ready k && not b then 1 else 0)
+              (same_before k (ap (λ c. is_one c k) some ∙ other) (λ _. other_way k p apart))
+        ]
 
   -- ---- where it kills
 
@@ -208,11 +254,18 @@ module _ (lib : Library) (w : World) (p : ℕ) (x : TraceItem) (after : World) (
     less_before k apart =
         less_then k _ _ w (settled_so k step.acted step.settled step.settles) (acted_less k apart (next_for lib step.process) refl step.acts kills)
 
-    fewer : (who : Option ℕ) → HaveLeft step.settled.blocked (woke_one who) after.blocked → OthersCome w p after who
+    starts_none : child ≡ None
+    starts_none = by_test (tells_start x) refl
+      where
+        by_test : (b : Bool) → tells_start x ≡ b → (if b then child_next step.process.handles (next_for lib step.process) else None) ≡ None
+        by_test true starts = absurd (false≢true (sym kills ∙ start_spares x starts))
+        by_test false starts = refl
+
+    fewer_same : (k : ℕ) → (k == p) ≡ false → (is_process after is_ready k && not (is_process step.settled is_ready k))
+        ≡ (is_process after is_ready k && not (is_process w is_ready k))
     unfolding is_process
-    fewer who left k apart =
-        by_turns (subst (AsOrWoken k step.settled) (sym step.ends_awake) (waking k step.settled)) (is_process step.settled is_ready k) refl
-        ∙ come_so who left k
+    fewer_same k apart =
+        sym (by_turns (subst (AsOrWoken k step.settled) (sym step.ends_awake) (waking k step.settled)) (is_process step.settled is_ready k) refl)
       where
         less : Less k step.settled w
         less = less_before k (other_way k p apart)
@@ -227,28 +280,30 @@ module _ (lib : Library) (w : World) (p : ℕ) (x : TraceItem) (after : World) (
         by_turns (inr (was, now)) s is =
             same_rest _ _ (busy_so (get w.processes k) (less is_blocked refl refl refl was) ∙ sym (busy_so (get step.settled.processes k) was))
 
-  few_or : child ≡ None → (who : Option ℕ) → HaveLeft step.settled.blocked (woke_one who) after.blocked → (b : Bool) → leaves_others x ≡ b
-      → IsChanged w p after (few_if b who)
-  few_or none who left true others = few others none who left
-  few_or none who left false kills = fewer kills who left
+    fewer : (list : List ℕ) → AreParted step.settled.blocked child list after.blocked → OthersCome w p after list
+    fewer list parted k apart =
+        come_so None list (subst (λ (c : Option ℕ). AreParted step.settled.blocked c list after.blocked) starts_none parted) k refl
+        ∙ ap (λ (b : Bool). if b then 1 else 0) (fewer_same k apart)
 
   pub changed : (who : Woke) → Tells lib w p x after step who → IsChanged w p after (change_of x who)
-  changed who t = by_child child refl t.woke t.left who t.is_told
+  changed who t = by_nobody (is_nobody who && leaves_ready x) refl
     where
-      by_item : child ≡ None → HaveLeft step.settled.blocked woke.Nobody after.blocked → (b : Bool) → leaves_ready x ≡ b
-          → IsChanged w p after (if b then change.Nobody else few_if (leaves_others x) None)
-      by_item none left true leaves = (few (spares_more x leaves) none None left, itself (spares_more x leaves) none leaves)
-      by_item none left false leaves = few_or none None left (leaves_others x) refl
+      come : leaves_others x ≡ true → (list : List ℕ) → AreParted step.settled.blocked child list after.blocked → OthersCome w p after list
+      come others list parted = comes_by others child refl list parted
 
-      by_woke : (c : Option ℕ) → child ≡ c → (w0 : Woke) → HaveLeft step.settled.blocked w0 after.blocked
-          → IsChanged w p after (change_of x (with_started c w0))
-      by_woke None none woke.Nobody left = by_item none left (leaves_ready x) refl
-      by_woke None none (woke.One q) left = few_or none (Some q) left (leaves_others x) refl
-      by_woke None none woke.More left = tt
-      by_woke (Some q) some woke.Nobody left = rw (start_spares x (told q some)) (one_more q some left)
-      by_woke (Some q) some (woke.One other) left = tt
-      by_woke (Some q) some woke.More left = tt
+      few_or : (b : Bool) → leaves_others x ≡ b → IsChanged w p after (few_if b who)
+      few_or true others = (stays_by others child refl, λ all. come others (pids_told who) (t all))
+      few_or false kills = λ all. fewer kills (pids_told who) (t all)
 
-      by_child : (c : Option ℕ) → child ≡ c → (w0 : Woke) → HaveLeft step.settled.blocked w0 after.blocked → (v : Woke) → v ≡ with_started c w0
-          → IsChanged w p after (change_of x v)
-      by_child c is w0 left v same = subst (λ (u : Woke). IsChanged w p after (change_of x u)) (sym same) (by_woke c is w0 left)
+      nobody : (v : Woke) → is_nobody v ≡ true → (tells_all v ≡ true → AreParted step.settled.blocked child (pids_told v) after.blocked)
+          → AreParted step.settled.blocked child [] after.blocked
+      nobody woke.Nobody is left = left refl
+      nobody (woke.One pid) is left = absurd (false≢true is)
+      nobody (woke.Several list) is left = absurd (false≢true is)
+
+      by_nobody : (b : Bool) → (is_nobody who && leaves_ready x) ≡ b → IsChanged w p after (if b then change.Nobody else few_if (leaves_others x) who)
+      by_nobody true is =
+          let both = and_parts (is_nobody who) (leaves_ready x) is in
+          let others = spares_more x both.1 in
+          (stays_by others child refl, come others [] (nobody who both.0 t), itself others both.1)
+      by_nobody false is = few_or (leaves_others x) refl

@@ -1,21 +1,19 @@
 -- Where a call kills and starts no other process, the others are as ready after it as before, but for those that woke. Where it kills, nobody becomes ready.
-use Rattle.zl_sched.proofs.Common.{Awaited, Blocked, Body, Bool, CallBy, CallName, Calls, Choice, Created, Ended, Entry, Gone, HaveLeft, IsTrue, Library, List}
+use Rattle.zl_sched.proofs.Common.{Awaited, Blocked, Body, Bool, CallBy, CallName, Calls, Choice, Created, Ended, Entry, Gone, IsTrue, Library, List}
 use Rattle.zl_sched.proofs.Common.{None, Object, Option, Outcome, Packet, PacketAt, PortBody, Process, Ready, Refused, Request, Settles, SignalOf, Site, Some}
-use Rattle.zl_sched.proofs.Common.{State, Status, Values, Wants, Woke, World, [], active, after_ok, after_refusal, ap, arith, awaited_by, call_ends, cases_Bool}
+use Rattle.zl_sched.proofs.Common.{State, Status, Values, Wants, World, [], active, after_ok, after_refusal, ap, awaited_by, call_ends, cases_Bool}
 use Rattle.zl_sched.proofs.Common.{child_of, created_process, effect, ended, entering_at, eqb-true, false, false≢true, fired, fold, get, get-each, get-put}
 use Rattle.zl_sched.proofs.Common.{get-update, handle_operands, if_started, if◌then◌else◌, inl, inr, insert_all, is_blocked, is_process, is_within}
 use Rattle.zl_sched.proofs.Common.{lives, made_ready, may_kill, meets, name_of, not, not-true, object_at, ok_outcome, on_object, on_process, option_map}
 use Rattle.zl_sched.proofs.Common.{process_create, process_ended, process_killed, process_settled, process_start, process_with, process_without, receiver_of}
 use Rattle.zl_sched.proofs.Common.{refl, remove_all, replied, row_of, started_with, state_passes, state_without, stored_by, storing, subst, sym, taken}
-use Rattle.zl_sched.proofs.Common.{task_kill, times-other, times-same, true, waiting, wakes, with_body, with_effect, with_killed, with_object}
-use Rattle.zl_sched.proofs.Common.{without_others, woken_at_port, woken_by, woken_by_first, woken_from, woken_if_there, ℕ, ◌&&◌, ◌==◌, ◌∙◌, ◌∷◌, ◌≡◌, ◌⊎◌}
+use Rattle.zl_sched.proofs.Common.{task_kill, true, waiting, wakes, with_body, with_effect, with_killed, with_object}
+use Rattle.zl_sched.proofs.Common.{without_others, woken_at_port, woken_by, woken_by_first, woken_from, woken_if_there, ℕ, ◌==◌, ◌∙◌, ◌∷◌, ◌≡◌, ◌⊎◌}
 use Rattle.zl_code.proofs.Common.{KILLED, keeping, kept_by, koid_in, new_handles, taken_handles, woken}
 use Rattle.zl_rights.specs.declared.status.Status.TheVariants as status
 use Rattle.zl_code.specs.declared.history.Outcome.TheVariants as outcome
 use Rattle.zl_code.specs.declared.history.TraceItem.TheVariants as item
-use Rattle.zl_code.proofs.Changes.{times}
 use Rattle.zl_code.proofs.Entering.{same_state}
-use Rattle.zl_calls.specs.declared.waking.Woke.TheVariants as woke
 use Rattle.zl_sched.proofs.MarksKept.{state_kept}
 use Rattle.zl_calls.proofs.Above.{still_free}
 use Rattle.zl_verify.proofs.OwnTable.{other_way}
@@ -85,41 +83,10 @@ pub waking : (k : ℕ) (u : World) → AsOrWoken k u (wakes u)
 unfolding wakes fired is_process
 waking k u = turns k (fired u) u.blocked
 
--- ---- who isn't blocked any more
-
 -- this one
 abbrev pub is_one : Option ℕ → ℕ → Bool
 is_one None k = false
 is_one (Some q) k = k == q
-
-abbrev pub woke_one : Option ℕ → Woke
-woke_one None = woke.Nobody
-woke_one (Some q) = woke.One q
-
--- k was blocked and isn't, as the lists tell, in which each blocked process stands once
-pub left_so : (who : Option ℕ) (before after : List ℕ) (k : ℕ) (was is : Bool) → times k before ≡ (if was then 1 else 0) → times k after ≡ (if is then 1 else 0)
-    → HaveLeft before (woke_one who) after → (was && not is) ≡ is_one who k
-left_so who before after k was is b a left = by_lists who left
-  where
-    as_often : (x y : Bool) → ◌≡◌ {A = ℕ} (if x then 1 else 0) (if y then 1 else 0) → (x && not y) ≡ false
-    as_often true true e = refl
-    as_often true false e = absurd (omega (arith, e))
-    as_often false y e = refl
-
-    no_more : (x y : Bool) → ◌≡◌ {A = ℕ} 1 (if x then 1 else 0) → ◌≡◌ {A = ℕ} 0 (if y then 1 else 0) → (x && not y) ≡ true
-    no_more true false e f = refl
-    no_more true true e f = absurd (omega (arith, f))
-    no_more false y e f = absurd (omega (arith, e))
-
-    by_lists : (o : Option ℕ) → HaveLeft before (woke_one o) after → (was && not is) ≡ is_one o k
-    by_lists None same = as_often was is (sym b ∙ (sym (ap (times k) same) ∙ a))
-    by_lists (Some q) (once, others) = elim (cases_Bool (k == q)) as (λ _. (was && not is) ≡ (k == q)) [
-      | inl here ↦
-          let same : k ≡ q = eqb-true k q here in
-          no_more was is (sym once ∙ (ap (λ (j : ℕ). times j before) (sym same) ∙ b))
-          (sym (times-same q before) ∙ (sym (ap (times q) others) ∙ (ap (λ (j : ℕ). times j after) (sym same) ∙ a))) ∙ sym here
-      | inr apart ↦ as_often was is (sym b ∙ (sym (times-other q k (other_way k q apart) before) ∙ (sym (ap (times k) others) ∙ a))) ∙ sym apart
-    ]
 
 -- ---- what a process does
 

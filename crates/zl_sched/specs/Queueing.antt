@@ -1,5 +1,5 @@
 -- How the ready list is brought up to date. No public clause cites this module.
-use Rattle.std.specs.Prelude.{true, false, ℕ, ◌≡◌, ⊤, Bool, ◌&&◌, not, ◌==◌, List, [], ◌∷◌, ◌++◌, Option, Some, None, if◌then◌else◌}
+use Rattle.std.specs.Prelude.{true, false, ℕ, ◌≡◌, Bool, ◌&&◌, not, ◌==◌, List, [], ◌∷◌, ◌++◌, if◌then◌else◌}
 use Rattle.std.specs.List.{filter, list_any}
 use Rattle.zl_code.specs.Common.{World, is_process, is_ready}
 use Rattle.zl_code.specs.declared.history.CallName.{CallName}
@@ -11,7 +11,8 @@ use Rattle.zl_calls.specs.declared.waking.Woke.{Woke}
 use Rattle.zl_calls.specs.declared.waking.Woke.TheVariants as woke
 use Rattle.zl_sched.specs.declared.change.Change.{Change}
 use Rattle.zl_sched.specs.declared.change.Change.TheVariants as change
-use Rattle.zl_sched.specs.Ready.{pids_of, is_in, others_of, still_ready, itself_ready}
+use Rattle.zl_calls.specs.Woke.{pids_told, tells_all}
+use Rattle.zl_sched.specs.Ready.{pids_of, is_in, others_of, still_ready, itself_ready, times_in}
 
 -- the process alone, where it is so
 abbrev pub one_if : Bool → ℕ → List ℕ
@@ -25,9 +26,13 @@ joins after p out stayed q = is_process after is_ready q && (not (list_any (λ x
 abbrev pub joining : World → ℕ → List ℕ → List ℕ → List ℕ
 joining after p out stayed = filter (λ q. joins after p out stayed q) (pids_of after)
 
--- the list without p, then those that join it, then p if it is ready
+-- the list behind those that stayed in it, then those that join it, then p if it is ready
+abbrev pub joined_by : World → ℕ → List ℕ → List ℕ → List ℕ
+joined_by after p out stayed = stayed ++ (joining after p out stayed ++ itself_ready after p)
+
+-- the list without p, and with all these
 abbrev pub requeued : World → ℕ → List ℕ → List ℕ → List ℕ
-requeued after p out list = still_ready after p list ++ (joining after p out (still_ready after p list) ++ itself_ready after p)
+requeued after p out list = joined_by after p out (still_ready after p list)
 
 -- the call that may end other processes
 abbrev pub may_kill : CallName → Bool
@@ -45,24 +50,26 @@ leaves_ready (item.Run pid count) = true
 leaves_ready (item.Call pid call (outcome.Answered answer)) = not (may_kill call)
 leaves_ready _ = false
 
--- the process of the step and this one, and those that were killed, unless there are none
-abbrev pub few_if : Bool → Option ℕ → Change
+-- the process of the step and these, and those that were killed, unless there are none
+abbrev pub few_if : Bool → Woke → Change
 few_if is_so who = if is_so then change.Few who else change.Fewer who
 
--- what the step of the item changes of who is ready, behind which these woke or were started
-abbrev pub change_of : TraceItem → Woke → Change
-change_of x woke.Nobody = if leaves_ready x then change.Nobody else few_if (leaves_others x) None
-change_of x (woke.One pid) = few_if (leaves_others x) (Some pid)
-change_of x woke.More = change.Any
+-- nobody became ready
+abbrev pub is_nobody : Woke → Bool
+is_nobody woke.Nobody = true
+is_nobody _ = false
 
--- who woke or was started, but for p
-abbrev pub woken_but : ℕ → Option ℕ → List ℕ
-woken_but p None = []
-woken_but p (Some q) = one_if (not (q == p)) q
+-- what the step of the item changes of who is ready, behind which these became ready
+abbrev pub change_of : TraceItem → Woke → Change
+change_of x who = if is_nobody who && leaves_ready x then change.Nobody else few_if (leaves_others x) who
+
+-- those that join the ones that stayed are those told, but for p, if all are told
+abbrev pub AreJoining : World → ℕ → List ℕ → List ℕ → Woke → Type 0
+AreJoining after p out stayed who =
+    tells_all who ≡ true → (k : ℕ) → times_in k (joining after p out stayed) ≡ times_in k (others_of p (pids_told who))
 
 -- what the change of a step of p tells of the list behind it
 abbrev pub IsTold : World → ℕ → List ℕ → List ℕ → Change → Type 0
 IsTold after p out list change.Nobody = requeued after p out list ≡ others_of p list ++ (p ∷ [])
-IsTold after p out list (change.Few who) = requeued after p out list ≡ others_of p list ++ (woken_but p who ++ itself_ready after p)
-IsTold after p out list (change.Fewer who) = requeued after p out list ≡ still_ready after p list ++ (woken_but p who ++ itself_ready after p)
-IsTold after p out list change.Any = ⊤
+IsTold after p out list (change.Few who) = (still_ready after p list ≡ others_of p list) × AreJoining after p out (still_ready after p list) who
+IsTold after p out list (change.Fewer who) = AreJoining after p out (still_ready after p list) who

@@ -1,45 +1,42 @@
 //! What a step of a process changes of who is ready, as far as its item and what is told beside it say.
 
 ghost use Rattle.std.specs.Prelude.{not, ◌≡◌};
-ghost use Rattle.zl_sched.specs.Queueing.{change_of, few_if, leaves_others, leaves_ready, may_kill};
+ghost use Rattle.zl_sched.specs.Queueing.{change_of, few_if, is_nobody, leaves_others, leaves_ready, may_kill};
 
 use zl_calls::Woke;
 use zl_code::{CallName, Outcome, TraceItem};
-use zl_rights::Pid;
 
 /// Who may be ready after a step and wasn't before it, or the other way round.
-#[derive(Clone, Copy)]
+#[derive(Drop)]
 pub enum Change {
     /// Nobody.
     Nobody,
-    /// The process of the step, and this one, which woke or was started.
-    Few(Option<Pid>),
-    /// The process of the step, those that were killed, and this one, which woke.
-    Fewer(Option<Pid>),
-    /// Anybody.
-    Any,
+    /// The process of the step, and those that became ready.
+    Few(Woke),
+    /// The process of the step, those that were killed, and those that became ready.
+    Fewer(Woke),
 }
 
-/// What the step of the item changes, behind which these woke or were started.
+/// What the step of the item changes, behind which these became ready.
 #[inline(always)]
 pub fn change_of(item: &TraceItem, woke: Woke) -> Change
     ensures { result ≡ change_of item.now woke }
 {
-    match woke {
-        Woke::Nobody => {
-            if leaves_ready(item) {
-                Change::Nobody
-            } else {
-                few_if(leaves_others(item), None)
-            }
-        }
-        Woke::One(pid) => few_if(leaves_others(item), Some(pid)),
-        Woke::More => Change::Any,
+    if is_nobody(&woke) && leaves_ready(item) {
+        return Change::Nobody;
     }
+    few_if(leaves_others(item), woke)
 }
 
-/// At most the process and this one, where that is so, else those too that were killed.
-fn few_if(is_so: bool, woke: Option<Pid>) -> Change
+/// Whether nobody became ready.
+fn is_nobody(woke: &Woke) -> bool
+    ensures { result ≡ is_nobody woke.now }
+{
+    matches!(woke, Woke::Nobody)
+}
+
+/// At most the process and these, where that is so, else those too that were killed.
+fn few_if(is_so: bool, woke: Woke) -> Change
     ensures { result ≡ few_if is_so woke }
 {
     if is_so {

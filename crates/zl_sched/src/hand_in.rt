@@ -164,7 +164,7 @@ impl System {
         let pid = done.pid();
         let (change, spent) = go(&mut self.world, &mut self.items, done);
         unmark(&mut self.out, pid);
-        queue(&mut self.ready, &self.out, &self.world, pid, change);
+        queue(&mut self.ready, &self.out, &mut self.world, pid, change);
         (true, spent)
     }
 }

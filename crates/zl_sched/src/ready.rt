@@ -1,15 +1,17 @@
 //! The list of the processes that are ready, by their last step or when they became ready, and the marks
 //! of those that are out.
 
-ghost use Rattle.std.specs.Prelude.{IfOk, ◌≡◌, ◌==◌, ◌≤◌, ◌+◌, ◌++◌, ◌∷◌, [], true, not, length, vec_capacity};
+ghost use Rattle.std.specs.Prelude.{IfOk, IsTrue, ◌≡◌, ◌==◌, ◌≤◌, ◌+◌, ◌++◌, ◌∷◌, [], not, length, vec_capacity};
 ghost use Rattle.std.specs.List.{filter, position};
+ghost use Rattle.std.specs.Ordering.{nat_cmp};
+ghost use Rattle.std.specs.FinMap.Entries.{is_sorted};
 ghost use Rattle.zl_calls.specs.World.{is_ready_in};
-ghost use Rattle.zl_sched.specs.Queueing.{IsTold, joining, joins, one_if, requeued, woken_but};
-ghost use Rattle.zl_sched.specs.Ready.{is_in, itself_ready, others_of, ready_by_koid as are_ready_by_koid, still_ready};
+ghost use Rattle.zl_sched.specs.Queueing.{AreJoining, IsTold, joined_by, joining, joins, one_if, requeued};
+ghost use Rattle.zl_sched.specs.Ready.{is_in, others_of, ready_by_koid as are_ready_by_koid, still_ready};
 
 use crate::change::Change;
 use std::alloc::{AllocError, Global};
-use zl_calls::World;
+use zl_calls::{Woke, WokeList, World};
 use zl_code::ProcState;
 use zl_rights::Pid;
 
@@ -53,45 +55,45 @@ pub fn ready_by_koid(alloc: Global, world: &World) -> Result<Vec<Pid>, AllocErro
 
 /// The list after a step of a process in it that made this change.
 #[inline(always)]
-pub fn move_on(ready: &mut Vec<Pid>, out: &[Pid], world: &World, pid: Pid, change: Change)
-    requires told { IsTold world.now.world pid out.now ready.old.items change }
+pub fn move_on(ready: &mut Vec<Pid>, out: &[Pid], world: &mut World, pid: Pid, change: Change)
+    requires told { IsTold world.old.world pid out.now ready.old.items change }
     requires once { length (filter (λ q. q == pid) ready.old.items) ≡ 1 }
-    requires room { length (requeued world.now.world pid out.now ready.old.items)
+    requires room { length (requeued world.old.world pid out.now ready.old.items)
         ≤ vec_capacity ready.old }
-    ensures items { ready.new.items ≡ requeued world.now.world pid out.now ready.old.items }
+    ensures items { ready.new.items ≡ requeued world.old.world pid out.now ready.old.items }
     ensures capacity { vec_capacity ready.new ≡ vec_capacity ready.old }
+    ensures world { world.new ≡ world.old }
 {
     match change {
         Change::Nobody => move_last(ready, pid),
         Change::Few(woke) => {
             take_out(ready, pid);
-            come(ready, world, pid, woke);
+            come(ready, out, world, pid, woke);
         }
         Change::Fewer(woke) => {
             keep_ready(ready, world, pid);
-            come(ready, world, pid, woke);
+            come(ready, out, world, pid, woke);
         }
-        Change::Any => requeue(ready, out, world, pid),
     }
 }
 
 /// The same for a process that isn't in the list.
-pub fn queue(ready: &mut Vec<Pid>, out: &[Pid], world: &World, pid: Pid, change: Change)
-    requires told { IsTold world.now.world pid out.now ready.old.items change }
+pub fn queue(ready: &mut Vec<Pid>, out: &[Pid], world: &mut World, pid: Pid, change: Change)
+    requires told { IsTold world.old.world pid out.now ready.old.items change }
     requires apart { length (filter (λ q. q == pid) ready.old.items) ≡ 0 }
-    requires room { length (requeued world.now.world pid out.now ready.old.items)
+    requires room { length (requeued world.old.world pid out.now ready.old.items)
         ≤ vec_capacity ready.old }
-    ensures items { ready.new.items ≡ requeued world.now.world pid out.now ready.old.items }
+    ensures items { ready.new.items ≡ requeued world.old.world pid out.now ready.old.items }
     ensures capacity { vec_capacity ready.new ≡ vec_capacity ready.old }
+    ensures world { world.new ≡ world.old }
 {
     match change {
         Change::Nobody => ready.push_reserved(pid),
-        Change::Few(woke) => come(ready, world, pid, woke),
+        Change::Few(woke) => come(ready, out, world, pid, woke),
         Change::Fewer(woke) => {
             keep_ready(ready, world, pid);
-            come(ready, world, pid, woke);
+            come(ready, out, world, pid, woke);
         }
-        Change::Any => requeue(ready, out, world, pid),
     }
 }
 
@@ -136,44 +138,76 @@ fn place_of(ready: &[Pid], pid: Pid) -> Option<usize>
     ready.iter().position(|other| *other == pid)
 }
 
-/// Who woke or was started comes last, but for the process, and then the process, if it is ready.
-fn come(ready: &mut Vec<Pid>, world: &World, pid: Pid, woke: Option<Pid>)
-    requires room { length (ready.old.items
-        ++ (woken_but pid woke ++ itself_ready world.now.world pid)) ≤ vec_capacity ready.old }
-    ensures items { ready.new.items
-        ≡ ready.old.items ++ (woken_but pid woke ++ itself_ready world.now.world pid) }
+/// Those that became ready come last, but for the process, and then the process, if it is ready.
+fn come(ready: &mut Vec<Pid>, out: &[Pid], world: &mut World, pid: Pid, woke: Woke)
+    requires told { AreJoining world.old.world pid out.now ready.old.items woke }
+    requires room { length (joined_by world.old.world pid out.now ready.old.items)
+        ≤ vec_capacity ready.old }
+    ensures items { ready.new.items ≡ joined_by world.old.world pid out.now ready.old.items }
     ensures capacity { vec_capacity ready.new ≡ vec_capacity ready.old }
+    ensures world { world.new ≡ world.old }
 {
-    push_woken(ready, pid, woke);
+    join(ready, out, world, pid, woke);
     push_if(ready, is_ready(world, pid), pid);
 }
 
-/// Who woke or was started comes last, but for the process.
-fn push_woken(ready: &mut Vec<Pid>, pid: Pid, woke: Option<Pid>)
-    requires room { length ready.old.items + length (woken_but pid woke)
-        ≤ vec_capacity ready.old }
-    ensures items { ready.new.items ≡ ready.old.items ++ woken_but pid woke }
+/// Those that became ready come last, but for the process.
+fn join(ready: &mut Vec<Pid>, out: &[Pid], world: &mut World, pid: Pid, woke: Woke)
+    requires told { AreJoining world.old.world pid out.now ready.old.items woke }
+    requires room { length (ready.old.items
+        ++ joining world.old.world pid out.now ready.old.items) ≤ vec_capacity ready.old }
+    ensures items { ready.new.items
+        ≡ ready.old.items ++ joining world.old.world pid out.now ready.old.items }
     ensures capacity { vec_capacity ready.new ≡ vec_capacity ready.old }
+    ensures world { world.new ≡ world.old }
 {
-    let Some(other) = woke else {
-        return;
-    };
-    push_if(ready, other != pid, other);
+    // Its clause has that processes stand in the order of their koids.
+    world.process_at(0);
+    match woke {
+        Woke::Nobody => {}
+        Woke::One(other) => push_if(ready, other != pid, other),
+        Woke::Several(list) => join_several(ready, out, world, pid, list),
+    }
 }
 
-/// The list after a step of the process: those that aren't ready leave it, and the process itself its
-/// place; those that are new in it go last by koid, and then the process, if it is ready.
+/// The same of several, by koid; the world gets their list back.
 // Apart from the steps that change little, which are nearly all.
 #[inline(never)]
-fn requeue(ready: &mut Vec<Pid>, out: &[Pid], world: &World, pid: Pid)
-    requires room { length (requeued world.now.world pid out.now ready.old.items)
-        ≤ vec_capacity ready.old }
-    ensures items { ready.new.items ≡ requeued world.now.world pid out.now ready.old.items }
+fn join_several(
+    ready: &mut Vec<Pid>,
+    out: &[Pid],
+    world: &mut World,
+    pid: Pid,
+    mut list: WokeList,
+)
+    requires told { AreJoining world.old.world pid out.now ready.old.items (Woke.Several list) }
+    requires in_order { IsTrue (is_sorted nat_cmp world.old.world.processes) }
+    requires room { length (ready.old.items
+        ++ joining world.old.world pid out.now ready.old.items) ≤ vec_capacity ready.old }
+    ensures items { ready.new.items
+        ≡ ready.old.items ++ joining world.old.world pid out.now ready.old.items }
+    ensures capacity { vec_capacity ready.new ≡ vec_capacity ready.old }
+    ensures world { world.new ≡ world.old }
+{
+    if !list.whole {
+        join_all(ready, out, world, pid);
+        world.put_back(Woke::Several(list));
+        return;
+    }
+    list.pids.sort_unstable();
+    push_others(ready, list.pids.as_slice(), pid);
+    world.put_back(Woke::Several(list));
+}
+
+/// Each of these comes last, but for the process.
+fn push_others(ready: &mut Vec<Pid>, pids: &[Pid], pid: Pid)
+    requires room { length (ready.old.items ++ others_of pid pids.now) ≤ vec_capacity ready.old }
+    ensures items { ready.new.items ≡ ready.old.items ++ others_of pid pids.now }
     ensures capacity { vec_capacity ready.new ≡ vec_capacity ready.old }
 {
-    keep_ready(ready, world, pid);
-    join(ready, out, world, pid);
-    push_if(ready, is_ready(world, pid), pid);
+    for other in pids {
+        push_if(ready, *other != pid, *other);
+    }
 }
 
 /// Those that aren't ready leave the list, and the process its place.
@@ -184,8 +218,9 @@ fn keep_ready(ready: &mut Vec<Pid>, world: &World, pid: Pid)
     ready.retain(|other| is_ready(world, *other) && *other != pid);
 }
 
-/// The ready processes that are neither in the list nor out come to it by koid, but for this one.
-fn join(ready: &mut Vec<Pid>, out: &[Pid], world: &World, pid: Pid)
+/// The ready processes that are neither in the list nor out come to it by koid, but for this one. It
+/// looks at all, as it isn't known who became ready.
+fn join_all(ready: &mut Vec<Pid>, out: &[Pid], world: &World, pid: Pid)
     requires room { length (ready.old.items
         ++ joining world.now.world pid out.now ready.old.items) ≤ vec_capacity ready.old }
     ensures items { ready.new.items

@@ -198,7 +198,7 @@ impl System {
         move_on(
             &mut self.ready,
             &self.out,
-            &self.world,
+            &mut self.world,
             pid,
             change_of(&item, woke),
         );

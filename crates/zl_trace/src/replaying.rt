@@ -88,8 +88,9 @@ fn repeat_step(world: &mut World, pid: Pid, item: TraceItem) -> bool
         (own_here world.new) }
     ensures other { result ≡ false → StepDiffers world.old.programs (own_here world.old) item }
 {
-    match world.step(pid) {
-        Some((own, _)) => own.is_same(item),
-        None => false,
-    }
+    let Some((own, woke)) = world.step(pid) else {
+        return false;
+    };
+    world.put_back(woke);
+    own.is_same(item)
 }

@@ -1,7 +1,9 @@
 -- The first element with a key: what it reads and writes, in the map by keys.
-use Rattle.zl_calls.proofs.Common.{Bool, List, Map, None, Some, [], ap, arith, cases_Bool, eqb-true, false, filter, get, get_or, if◌then◌else◌, inl, inr}
+use Rattle.zl_calls.proofs.Common.{Bool, List, Map, None, Some, [], ap, arith, cases_Bool, eqb-true, false, filter, get, get_or, if◌then◌else◌, inl, inr, ◌++◌}
 use Rattle.zl_calls.proofs.Common.{length, map, nat_lt, nat_tests, none-some, position, position-Some, position_or_len, refl, set, suc, sym, times, true}
 use Rattle.zl_calls.proofs.Common.{update, zero, ℕ, ◌<◌, ◌==◌, ◌∙◌, ◌∷◌, ◌≡◌, ◌≤◌}
+use Rattle.zl_calls.proofs.Common.{◌++◌, ◌+◌, length-append, ◌∙◌}
+use Rattle.std.proofs.lemmas.List.Elements.{filter-append}
 
 -- the element at place i is the first with the key k
 pub record IsFirst {X : Type 0} (key : X → ℕ) (xs : List X) (k i : ℕ) (d : X) : Type 0 where
@@ -66,7 +68,17 @@ module _ {X Y : Type 0} (key : X → ℕ) (value : X → Y) where
   pub get_missing : (xs : List X) (k : ℕ) → position (λ x. key x == k) xs ≡ None → get (map entry xs) k ≡ None
   get_missing xs k none = get_behind xs k (missing_from xs k none)
 
--- ---- how often one stands among those that pass
+-- ---- how often one stands in a list, in two, and among those that pass
+
+pub times_cons : (p x : ℕ) (xs : List ℕ) → times p (x ∷ xs) ≡ (if x == p then 1 else 0) + times p xs
+times_cons p x xs = by_test (x == p)
+  where
+    by_test : (b : Bool) → length (if b then x ∷ filter (λ q. q == p) xs else filter (λ q. q == p) xs) ≡ (if b then 1 else 0) + times p xs
+    by_test true = omega arith
+    by_test false = omega arith
+
+pub times-append : (k : ℕ) (xs ys : List ℕ) → times k (xs ++ ys) ≡ times k xs + times k ys
+times-append k xs ys = ap length (filter-append (λ q. q == k) xs ys) ∙ length-append (filter (λ q. q == k) xs) (filter (λ q. q == k) ys)
 
 pub times-filter : (f : ℕ → Bool) (k : ℕ) (xs : List ℕ) → times k (filter f xs) ≡ (if f k then times k xs else 0)
 times-filter f k [] = elim (f k) as (λ b. ◌≡◌ {A = ℕ} 0 (if b then 0 else 0)) [ true ↦ refl | false ↦ refl ]

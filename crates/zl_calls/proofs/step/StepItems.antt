@@ -14,6 +14,7 @@ use Rattle.zl_code.specs.declared.instr.Instr.TheVariants as instr
 use Rattle.zl_code.specs.Steps.{moves, next_of, next_in}
 use Rattle.zl_code.proofs.Stepping.{wanting_step}
 use Rattle.zl_calls.specs.declared.waking.Woke.TheVariants as woke
+use Rattle.zl_calls.proofs.Common.{HaveLeft, option_to_list, pids_told, times_among, Option, None, List, arith, ap, subst, sym}
 
 -- ---- the process that acts, and the item
 
@@ -117,11 +118,16 @@ woken_to ps2 ps3 r2 left fires r3 blocked2 blocked3 unheld fired_so awake =
 abbrev pub machine_value : Library → List Process → Objects → List ℕ → Machine
 machine_value lib ps r blocked = record { programs = lib; world = world_blocked ps r blocked; free = map free_entry ps }
 
+-- nobody woke
+pub just_started : (blocked : List ℕ) (started : Option ℕ) (who : Woke) → pids_told who ≡ option_to_list started → HaveLeft blocked started who blocked
+just_started blocked started who told all k = omega (arith, ap (times_among k) told)
+
 -- the process acted up to where processes wake, and then these did
-does_step : (m : Machine) (pid : ℕ) (m2 : Machine) (x : TraceItem) (who : Woke) (settled : World) → m2.programs ≡ m.programs
-    → DoesNext m.programs m.world pid x settled → m2.world ≡ wakes settled → HaveLeft settled.blocked who m2.world.blocked → StepsAndWakes m pid m2 x who
+does_step : (m : Machine) (pid : ℕ) (m2 : Machine) (x : TraceItem) (started : Option ℕ) (who : Woke) (settled : World) → m2.programs ≡ m.programs
+    → DoesNext m.programs m.world pid x settled → m2.world ≡ wakes settled → HaveLeft settled.blocked started who m2.world.blocked
+    → StepsAndWakes m pid m2 x started who
 unfolding is_process
-does_step m pid m2 x who settled programs does awake told = record {
+does_step m pid m2 x started who settled programs does awake told = record {
   takes = record {
     pid_is = does.pid_is;
     ready = rw (does.acted.is_there, does.acted.is_ready) refl;
@@ -149,20 +155,21 @@ module _ (lib : Library) (ps : List Process) (r : Objects) (blocked : List ℕ) 
   not_ready_in None unready = unready
   not_ready_in (Some x) unready = tt
 
-  pub takes_step : (ps2 ps3 : List Process) (r2 r3 : Objects) (blocked2 blocked3 : List ℕ) (x : TraceItem) (who : Woke)
+  pub takes_step : (ps2 ps3 : List Process) (r2 r3 : Objects) (blocked2 blocked3 : List ℕ) (x : TraceItem) (started : Option ℕ) (who : Woke)
       → DoesNext lib (world_blocked ps r blocked) pid x (world_left ps2 r2 blocked2)
-      → world_blocked ps3 r3 blocked3 ≡ wakes (world_left ps2 r2 blocked2) → HaveLeft blocked2 who blocked3
-      → StepsAndWakes (machine_value lib ps r blocked) pid (machine_value lib ps3 r3 blocked3) x who
-  takes_step ps2 ps3 r2 r3 blocked2 blocked3 x who does awake told =
-      does_step (machine_value lib ps r blocked) pid (machine_value lib ps3 r3 blocked3) x who (world_left ps2 r2 blocked2) refl does awake told
+      → world_blocked ps3 r3 blocked3 ≡ wakes (world_left ps2 r2 blocked2) → HaveLeft blocked2 started who blocked3
+      → StepsAndWakes (machine_value lib ps r blocked) pid (machine_value lib ps3 r3 blocked3) x started who
+  takes_step ps2 ps3 r2 r3 blocked2 blocked3 x started who does awake told =
+      does_step (machine_value lib ps r blocked) pid (machine_value lib ps3 r3 blocked3) x started who (world_left ps2 r2 blocked2) refl does awake told
 
   -- the same of a local instruction, behind which nothing is due
   pub takes_local : (ps2 : List Process) (r2 : Objects) (blocked2 : List ℕ) (x : TraceItem) → is_local x ≡ true
       → DoesNext lib (world_blocked ps r blocked) pid x (world_left ps2 r2 (then_blocked pid x blocked2))
       → wakes (world_left ps2 r2 blocked2) ≡ world_blocked ps2 r2 blocked2
-      → StepsAndWakes (machine_value lib ps r blocked) pid (machine_value lib ps2 r2 blocked2) x woke.Nobody
-  takes_local ps2 r2 blocked2 x local does quiet = takes_step ps2 ps2 r2 r2 (then_blocked pid x blocked2) blocked2 x woke.Nobody does
-      (local_awake pid ps2 r2 blocked2 x local quiet) (sym (local_list pid x blocked2 local))
+      → StepsAndWakes (machine_value lib ps r blocked) pid (machine_value lib ps2 r2 blocked2) x None woke.Nobody
+  takes_local ps2 r2 blocked2 x local does quiet = takes_step ps2 ps2 r2 r2 (then_blocked pid x blocked2) blocked2 x None woke.Nobody does
+      (local_awake pid ps2 r2 blocked2 x local quiet)
+      (subst (λ (b : List ℕ). HaveLeft b None woke.Nobody blocked2) (sym (local_list pid x blocked2 local)) (just_started blocked2 None woke.Nobody refl))
 
 -- behind such a step nothing is due
 pub stepped_awake : (lib : Library) (ps ps2 : List Process) (r r2 : Objects) (blocked blocked2 : List ℕ) (pid : ℕ) (x : TraceItem)

@@ -1,11 +1,12 @@
 -- What a step tells of who became ready: who woke, and whom it started.
 use Rattle.zl_calls.proofs.Common.{CallName, CalledAmong, Library, List, Machine, None, NotesNextChild, NotesStarted, Objects, Option, Outcome, Parts, Process}
 use Rattle.zl_calls.proofs.Common.{ProcessValue, Some, StepsAndTells, StepsAndWakes, Taken, TraceItem, Woke, ap, calls_at, child_next, get, get_or, if_started}
-use Rattle.zl_calls.proofs.Common.{is_local, next_for, position, process_value, refl, same_Some, subst, sym, true, with_started, world_blocked, ℕ, ◌==◌, ◌∙◌}
+use Rattle.zl_calls.proofs.Common.{is_local, next_for, position, process_value, refl, same_Some, subst, sym, true, world_blocked, ℕ, ◌==◌, ◌∙◌}
 use Rattle.zl_calls.proofs.Common.{◌≡◌}
 use Rattle.zl_code.specs.declared.history.CallName.TheVariants as name
 use Rattle.zl_code.specs.declared.history.TraceItem.TheVariants as item
 use Rattle.zl_calls.proofs.step.Performing.{stands_there}
+use Rattle.zl_calls.proofs.Common.{HaveLeft}
 
 -- what is so of a start is so of the item
 same_started : (pid : ℕ) (n : CallName) (o : Outcome) (a b : Option ℕ) → (n ≡ name.ProcessStart → a ≡ b)
@@ -32,20 +33,18 @@ local_starts (item.Run pid count) child local = refl
 local_starts (item.Call pid n o) child local = absurd (cc)
 local_starts (item.Stuck pid) child local = refl
 
--- the step of a process, behind which these woke
-module _ (m : Machine) (pid : ℕ) (m2 : Machine) (x : TraceItem) (woke : Woke) (did : StepsAndWakes m pid m2 x woke) where
-  tells_by : (child : Option ℕ) → if_started x (child_next did.takes.steps.step.process.handles (next_for m.programs did.takes.steps.step.process)) ≡ child
-      → (w : Woke) → w ≡ with_started child woke → StepsAndTells m pid m2 x w
-  tells_by child same w is = record {
+-- the step of a process that was noted to start this one, behind which these woke
+module _ (m : Machine) (pid : ℕ) (m2 : Machine) (x : TraceItem) (started : Option ℕ) (woke : Woke) (did : StepsAndWakes m pid m2 x started woke) where
+  tells_by : if_started x (child_next did.takes.steps.step.process.handles (next_for m.programs did.takes.steps.step.process)) ≡ started
+      → StepsAndTells m pid m2 x woke
+  tells_by same = record {
     takes = did.takes;
-    tells = record { woke = woke; left = did.left; is_told = is ∙ sym (ap (λ c. with_started c woke) same) };
+    tells = subst (λ (c : Option ℕ). HaveLeft did.takes.steps.step.settled.blocked c woke m2.world.blocked) (sym same) did.left;
   }
 
-  pub tells_step : (t : Taken) → NotesStarted m.programs m.world pid x t → (w : Woke) → w ≡ with_started (if_started x (Some t.started)) woke
-      → StepsAndTells m pid m2 x w
-  tells_step t noted w is =
-      tells_by (if_started x (Some t.started)) (noted did.takes.steps.step.process
-      (subst (λ (k : ℕ). get m.world.processes k ≡ Some did.takes.steps.step.process) did.takes.pid_is did.takes.steps.step.is_there)) w is
+  pub tells_step : (t : Taken) → NotesStarted m.programs m.world pid x t → started ≡ if_started x (Some t.started) → StepsAndTells m pid m2 x woke
+  tells_step t noted is = tells_by (noted did.takes.steps.step.process
+      (subst (λ (k : ℕ). get m.world.processes k ≡ Some did.takes.steps.step.process) did.takes.pid_is did.takes.steps.step.is_there) ∙ sym is)
 
-  pub tells_local : is_local x ≡ true → StepsAndTells m pid m2 x woke
-  tells_local local = tells_by None (local_starts x _ local) woke refl
+  pub tells_local : is_local x ≡ true → started ≡ None → StepsAndTells m pid m2 x woke
+  tells_local local none = tells_by (local_starts x _ local ∙ sym none)

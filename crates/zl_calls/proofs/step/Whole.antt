@@ -8,10 +8,11 @@ use Rattle.zl_calls.specs.declared.waking.Woke.TheVariants as woke
 use Rattle.zl_calls.proofs.objects.SameButWaits.{beside_consistent}
 use Rattle.zl_calls.proofs.step.Covered.{stepped_covered}
 use Rattle.zl_calls.proofs.step.OwnStep.{own_stepped}
-use Rattle.zl_calls.proofs.step.StepItems.{machine_value, stepped_awake, stepped_programs, stepped_sound, takes_step, woken_to}
+use Rattle.zl_calls.proofs.step.StepItems.{machine_value, stepped_awake, stepped_programs, stepped_sound, takes_step, woken_to, just_started}
 use Rattle.zl_calls.proofs.waking.Ordered.{same_ordered}
 use Rattle.zl_calls.proofs.waking.Quiet.{none_holding, quiet_fires, quiet_wakes}
 use Rattle.zl_calls.proofs.waking.StillBlocked.{acted_ordered, acted_sought, asleep_world, moved_last, same_seeks}
+use Rattle.zl_calls.proofs.Common.{Option, None, option_to_list, pids_told}
 
 module _ (lib : Library) (ps : List Process) (r : Objects) (b : List ℕ) (room : ℕ) (pid : ℕ) (x : TraceItem) (whole : IsWhole lib ps r b room) where
   -- a step leads to such a world again
@@ -76,15 +77,17 @@ module _ (lib : Library) (ps : List Process) (r : Objects) (b : List ℕ) (room 
         quiet_own = own_stepped lib ps r b pid x ps1 ps1 asleep (then_blocked pid x b1) (world_left ps1 r1 (then_blocked pid x b1))
             asleep_consistent.processes_in_order refl does still
 
-        pub quiet_step : StepsAndWakes (machine_value lib ps r b) pid (machine_value lib ps1 asleep (then_blocked pid x b1)) x woke.Nobody
-        quiet_step = takes_step lib ps r b pid ps1 ps1 r1 asleep (then_blocked pid x b1) (then_blocked pid x b1) x woke.Nobody does still refl
+        pub quiet_step : (started : Option ℕ) (w : Woke) → pids_told w ≡ option_to_list started
+            → StepsAndWakes (machine_value lib ps r b) pid (machine_value lib ps1 asleep (then_blocked pid x b1)) x started w
+        quiet_step started w told = takes_step lib ps r b pid ps1 ps1 r1 asleep (then_blocked pid x b1) (then_blocked pid x b1) x started w does still
+            (just_started (then_blocked pid x b1) started w told)
 
         pub quiet_whole : (room2 : ℕ) → length ps1 ≤ room2 → IsWhole lib ps1 asleep (then_blocked pid x b1) room2
-        quiet_whole room2 enough = stepped_whole ps1 asleep (then_blocked pid x b1) room2 quiet_step.takes asleep_consistent list known ordered enough
+        quiet_whole room2 enough = stepped_whole ps1 asleep (then_blocked pid x b1) room2 (quiet_step None woke.Nobody refl).takes asleep_consistent list known ordered enough
 
     -- waits fire, and processes wake
-    module _ (fires : Objects) (fired_so : FiresWaits ps1 asleep fires) (ps2 : List Process) (r2 : Objects) (b2 : List ℕ) (w : Woke)
-        (wakes_so : Wakes ps1 fires (then_blocked pid x b1) w ps2 r2 b2) where
+    module _ (fires : Objects) (fired_so : FiresWaits ps1 asleep fires) (ps2 : List Process) (r2 : Objects) (b2 : List ℕ)
+        (started : Option ℕ) (w : Woke) (wakes_so : Wakes ps1 fires (then_blocked pid x b1) started w ps2 r2 b2) where
       awake_so : world_blocked ps2 r2 b2 ≡ wakes (world_left ps1 r1 (then_blocked pid x b1))
       awake_so = woken_to ps1 ps2 r1 left fires r2 (then_blocked pid x b1) b2 unheld
           (fired_so.world (then_blocked pid x b1) ∙ ap fired (asleep_world ps1 pid x left asleep falls (then_blocked pid x b1))) wakes_so.wakes
@@ -94,8 +97,8 @@ module _ (lib : Library) (ps : List Process) (r : Objects) (b : List ℕ) (room 
       woken_own = own_stepped lib ps r b pid x ps1 ps2 r2 b2 (world_left ps1 r1 (then_blocked pid x b1))
           asleep_consistent.processes_in_order wakes_so.held does awake_so
 
-      pub woken_step : StepsAndWakes (machine_value lib ps r b) pid (machine_value lib ps2 r2 b2) x w
-      woken_step = takes_step lib ps r b pid ps1 ps2 r1 r2 (then_blocked pid x b1) b2 x w does awake_so wakes_so.told
+      pub woken_step : StepsAndWakes (machine_value lib ps r b) pid (machine_value lib ps2 r2 b2) x started w
+      woken_step = takes_step lib ps r b pid ps1 ps2 r1 r2 (then_blocked pid x b1) b2 x started w does awake_so wakes_so.told
 
       pub nothing_holds : list_any (holds_now r2.objects) r2.waits ≡ false
       nothing_holds = none_holding ps2 r2 wakes_so.consistent b2 (stepped_awake lib ps ps2 r r2 b b2 pid x woken_step.takes)

@@ -8,7 +8,7 @@ use Rattle.std.specs.Cmp.{nat_cmp_total}
 use Rattle.std.specs.FinMap.Entries.{is_sorted-put}
 use Rattle.zl_rights.proofs.Canonical.{put-std}
 use Rattle.zl_calls.proofs.waking.BlockedLists.{none_filtered}
-use Rattle.zl_calls.proofs.waking.WakeLoop.{times_cons}
+use Rattle.zl_calls.proofs.lists.Positions.{times_cons}
 
 -- ---- maps and lists
 

@@ -2,7 +2,7 @@
 use Rattle.zl_calls.proofs.Common.{All, All-contains, AreBlocked, AreOrdered, AreSought, Blocked, Bool, Contains, Created, Ended, Gone, HaveCounters, HaveLeft}
 use Rattle.zl_calls.proofs.Common.{IsConsistent, IsTrue, KeepSleepers, List, None, Objects, Option, Packet, PacketAt, Process, ProcessValue, Ready, Seeks}
 use Rattle.zl_calls.proofs.Common.{SignalOf, Sleeper, Some, StandInOrder, StateValue, TakesDue, Wakes, WakesOne, WakesSleeper, Woke, World, [], and-false}
-use Rattle.zl_calls.proofs.Common.{and_one, and_parts, ap, arith, awaited_found, awaited_in, awaited_of, bare, cases_Bool, each, eq-eqb, eqb-true, false}
+use Rattle.zl_calls.proofs.Common.{and_parts, ap, arith, awaited_found, awaited_in, awaited_of, bare, cases_Bool, each, eq-eqb, eqb-true, false, pids_told}
 use Rattle.zl_calls.proofs.Common.{false≢true, filter, fold, get, get_or, given_awake, held, if◌then◌else◌, inl, inr, is_blocked, is_due, is_empty, is_for}
 use Rattle.zl_calls.proofs.Common.{is_same, is_some, listed_for, map, meets, none-some, not, object_value, option_map, other_way, packet_values, packets_found}
 use Rattle.zl_calls.proofs.Common.{passes, position, process_entry, refl, same_Some, signals_at, slice_get, state_passes, state_value, subst, sym, takes_at}
@@ -18,8 +18,10 @@ use Rattle.zl_calls.proofs.objects.SameButWaits.{beside_consistent}
 use Rattle.zl_calls.proofs.waking.Exchange.{AreSorted, other_turn, turn_first}
 use Rattle.zl_calls.proofs.waking.Ordered.{agree, both_filters, takes_awaited, takes_none}
 use Rattle.zl_calls.proofs.waking.Quiet.{quiet_wakes}
-use Rattle.zl_calls.proofs.waking.WakeLoop.{one_left}
+use Rattle.zl_calls.proofs.waking.WakeLoop.{IsNotedToo, IsToldSoFar, begins_told, ends_told, one_left}
 use Rattle.std.proofs.Math.Bool.{and-true}
+use Rattle.zl_calls.proofs.Common.{option_to_list}
+use Rattle.zl_calls.proofs.Common.{option_to_list, pids_told, tells_all}
 
 -- ---- what is waited for
 
@@ -89,7 +91,8 @@ sleeper_misses s true ps r elsewhere none = absurd (false≢true (sym none))
 -- ---- the loop
 
 -- the rest of the turns leads where all at the start did, and all that was known of the blocked is known
-pub record IsWakingListed (ps0 : List Process) (r0 : Objects) (first : List ℕ) (ps : List Process) (r : Objects) (blocked : List ℕ) (who : Woke) : Type 0 where
+pub record IsWakingListed (ps0 : List Process) (r0 : Objects) (first : List ℕ) (started : Option ℕ) (ps : List Process) (r : Objects) (blocked : List ℕ)
+    (list_told : List ℕ) (whole : Bool) : Type 0 where
   pub so_far : fold woken (world_blocked ps r blocked) blocked ≡ fold woken (world_blocked ps0 r0 first) first
   pub consistent : IsConsistent ps r
   pub list : AreBlocked ps blocked
@@ -97,15 +100,24 @@ pub record IsWakingListed (ps0 : List Process) (r0 : Objects) (first : List ℕ)
   pub stand : StandInOrder ps r blocked
   pub all : r.crowded ≡ false
   pub held : map held ps ≡ map held ps0
-  pub told : HaveLeft first who blocked
+  pub told : IsToldSoFar first started list_told whole blocked
 
-module _ (ps0 : List Process) (r0 : Objects) (first : List ℕ) where
+module _ (ps0 : List Process) (r0 : Objects) (first : List ℕ) (started : Option ℕ) where
   pub listed_begins : IsConsistent ps0 r0 → AreBlocked ps0 first → AreSought ps0 r0 → StandInOrder ps0 r0 first → r0.crowded ≡ false
-      → IsWakingListed ps0 r0 first ps0 r0 first woke.Nobody
-  listed_begins consistent list sought stand all =
-      record { so_far = refl; consistent = consistent; list = list; sought = sought; stand = stand; all = all; held = refl; told = refl }
+      → (told : List ℕ) (whole : Bool) → (whole ≡ true → told ≡ option_to_list started) → IsWakingListed ps0 r0 first started ps0 r0 first told whole
+  listed_begins consistent list sought stand all told whole begins = record {
+    so_far = refl;
+    consistent = consistent;
+    list = list;
+    sought = sought;
+    stand = stand;
+    all = all;
+    held = refl;
+    told = begins_told first started told whole begins;
+  }
 
-  module _ (ps : List Process) (r : Objects) (b : List ℕ) (who : Woke) (so_far : IsWakingListed ps0 r0 first ps r b who) where
+  module _ (ps : List Process) (r : Objects) (b : List ℕ) (told : List ℕ) (whole : Bool) (so_far : IsWakingListed ps0 r0 first started ps r b told whole)
+    where
     listed_there : (k : ℕ) (p : ProcessValue) (a : AwaitedValue) (ds : List ℕ) → get (map process_entry ps) k ≡ Some p → p.state ≡ Blocked a ds
         → Contains r.sleepers (record { pid = k; awaited = awaited_of a })
     listed_there k p a ds at is = by_seeks (so_far.sought k p a ds at is)
@@ -115,8 +127,9 @@ module _ (ps0 : List Process) (r0 : Objects) (first : List ℕ) where
         by_seeks (inr there) = there
 
     -- nobody that is listed has what it waits for
-    pub listed_ends : All (λ s. is_due r.objects s.awaited ≡ false) r.sleepers → Wakes ps0 r0 first who ps r b
-    listed_ends none = record {
+    pub listed_ends : All (λ s. is_due r.objects s.awaited ≡ false) r.sleepers → (who : Woke) → pids_told who ≡ told → (tells_all who ≡ true → whole ≡ true)
+        → Wakes ps0 r0 first started who ps r b
+    listed_ends none who same all = record {
       wakes = sym (quiet_wakes ps r so_far.consistent b (λ k p a ds at is.
           All-contains (λ (s : Sleeper). is_due r.objects s.awaited ≡ false) r.sleepers (record { pid = k; awaited = awaited_of a }) none
           (listed_there k p a ds at is)) b) ∙ so_far.so_far;
@@ -126,7 +139,7 @@ module _ (ps0 : List Process) (r0 : Objects) (first : List ℕ) where
       ordered = inr so_far.stand;
       held = so_far.held;
       none_due = none;
-      told = so_far.told;
+      told = ends_told first started told whole b so_far.told who same all;
     }
 
     -- one is taken off the list
@@ -155,7 +168,8 @@ module _ (ps0 : List Process) (r0 : Objects) (first : List ℕ) where
           ≡ filter test (listed_for r1.sleepers port)) [ inl its ↦ rw (its, out its) refl | inr other ↦ rw other refl ])
 
       -- it isn't blocked on that
-      pub sleeper_stays : (awaited_found (get (map process_entry ps) s.pid) ≡ Some s.awaited → ⊥) → IsWakingListed ps0 r0 first ps r1 b who
+      pub sleeper_stays : (awaited_found (get (map process_entry ps) s.pid) ≡ Some s.awaited → ⊥)
+          → IsWakingListed ps0 r0 first started ps r1 b told whole
       sleeper_stays elsewhere = record {
         so_far = ap (λ (w : World). fold woken w b) (taken_world b) ∙ so_far.so_far;
         consistent = taken_consistent;
@@ -263,8 +277,9 @@ module _ (ps0 : List Process) (r0 : Objects) (first : List ℕ) where
               | inr other ↦ other
             ]
 
-        pub sleeper_wakes : IsWakingListed ps0 r0 first ps2 r2 later (and_one who s.pid)
-        sleeper_wakes = record {
+        pub sleeper_wakes : (told2 : List ℕ) (whole2 : Bool) → IsNotedToo s.pid told whole told2 whole2
+            → IsWakingListed ps0 r0 first started ps2 r2 later told2 whole2
+        sleeper_wakes told2 whole2 noted = record {
           so_far = turns ∙ so_far.so_far;
           consistent = wakes_it.consistent;
           list = list2;
@@ -272,7 +287,7 @@ module _ (ps0 : List Process) (r0 : Objects) (first : List ℕ) where
           stand = stand2;
           all = kept.1 ∙ taken_all;
           held = wakes_it.held ∙ so_far.held;
-          told = one_left first b later s.pid who so_far.told stands_once refl;
+          told = one_left first started b told whole so_far.told s.pid stands_once later refl told2 whole2 noted;
         }
 
 -- ---- where perhaps not all are listed
@@ -282,10 +297,11 @@ in_order ps r blocked (inl crowded) all = absurd (false≢true (sym all ∙ crow
 in_order ps r blocked (inr stand) all = stand
 
 -- each blocked process had its turn, and nobody is listed any more
-pub crowded_wakes : (ps0 : List Process) (r0 : Objects) (first : List ℕ) (who : Woke) (ps : List Process) (r : Objects) (b : List ℕ)
+pub crowded_wakes : (ps0 : List Process) (r0 : Objects) (first : List ℕ) (started : Option ℕ) (who : Woke) (ps : List Process) (r : Objects) (b : List ℕ)
     → world_blocked ps r b ≡ fold woken (world_blocked ps0 r0 first) first → IsConsistent ps r → AreBlocked ps b → map held ps ≡ map held ps0
-    → KeepSleepers r0 r → HaveLeft first who b → IsTrue r0.crowded → (r2 : Objects) → r2 ≡ record r { sleepers = [] } → Wakes ps0 r0 first who ps r2 b
-crowded_wakes ps0 r0 first who ps r b wakes consistent list holds kept told crowded r2 is = rw is (record {
+    → KeepSleepers r0 r → HaveLeft first started who b → IsTrue r0.crowded → (r2 : Objects) → r2 ≡ record r { sleepers = [] }
+    → Wakes ps0 r0 first started who ps r2 b
+crowded_wakes ps0 r0 first started who ps r b wakes consistent list holds kept told crowded r2 is = rw is (record {
   wakes = wakes;
   consistent = beside_consistent ps r (record r { sleepers = [] }) (record { objects = refl; koids = refl }) consistent;
   list = list;

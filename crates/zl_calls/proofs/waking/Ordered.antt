@@ -9,7 +9,7 @@ use Rattle.zl_code.proofs.Common.{ltb-false, ltb-true}
 use Rattle.zl_objects.specs.declared.awaited.Awaited.{Awaited}
 use Rattle.zl_calls.proofs.calls.Answered.{IsWrite}
 use Rattle.zl_calls.proofs.processes.Written.{get_after}
-use Rattle.zl_calls.proofs.waking.WakeLoop.{times_cons}
+use Rattle.zl_calls.proofs.lists.Positions.{times_cons}
 
 -- ---- lists
 

@@ -7,13 +7,12 @@ ghost use Rattle.zl_rights.specs.Map.{get};
 ghost use Rattle.zl_code.specs.Request.{site_of};
 ghost use Rattle.zl_code.specs.Tests.{koid_in};
 ghost use Rattle.zl_code.specs.Local.{reg};
-ghost use Rattle.zl_calls.specs.Started.{if_started, is_ok, is_start, tells_start, with_started};
+ghost use Rattle.zl_calls.specs.Started.{if_started, is_ok, is_start, tells_start};
 ghost use Rattle.zl_calls.specs.Taken.{IsNoted, NotesFor, has_noted};
 
 use crate::calls::channel::writing::sent_places;
 use crate::calls::handle::live_at;
 use crate::process::Process;
-use crate::waking::Woke;
 use smallvec::SmallVec;
 use std::alloc::Global;
 use zl_code::{CallInstr, CallName, Outcome, TraceItem};
@@ -62,18 +61,15 @@ impl Taken {
         };
     }
 
-    /// Who woke, and the process that is noted, where the item tells that it was started.
+    /// The process that is noted, where the item tells that it was started.
     #[inline(always)]
-    pub fn with_started(&self, item: &TraceItem, woke: Woke) -> Woke
-        ensures { result ≡ with_started (if_started item.now (Some self.now.started)) woke }
+    pub fn started_by(&self, item: &TraceItem) -> Option<Pid>
+        ensures { result ≡ if_started item.now (Some self.now.started) }
     {
-        if !tells_start(item) {
-            return woke;
-        }
-        match woke {
-            Woke::Nobody => Woke::One(self.started),
-            Woke::One(_) => Woke::More,
-            Woke::More => Woke::More,
+        if tells_start(item) {
+            Some(self.started)
+        } else {
+            None
         }
     }
 

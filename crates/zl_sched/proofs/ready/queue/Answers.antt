@@ -1,5 +1,6 @@
-use Rattle.zl_sched.proofs.Common.{List, [], ap, arith, itself_ready, length, length-append, none_filtered, refl, requeued, subst, sym, vec_capacity, woken_but}
+use Rattle.zl_sched.proofs.Common.{List, [], ap, arith, length, length-append, none_filtered, refl, requeued, subst, sym, vec_capacity}
 use Rattle.zl_sched.proofs.Common.{ℕ, ◌++◌, ◌∙◌, ◌∷◌, ◌≡◌, ◌≤◌}
+use Rattle.zl_sched.proofs.Common.{AreJoining, joined_by, still_ready}
 use Rattle.zl_sched.proofs.ready.queue.Goals as goal
 
 pub push_reserved-requires : goal.push_reserved-requires
@@ -16,14 +17,17 @@ returns-in-Nobody-clause-items c =
     ∙ sym (rw c.in-Nobody.is at c.requires.told))
 
 pub come-requires : goal.come-requires
-come-requires c = record {
-  room = subst (λ (ys : List ℕ). length ys ≤ vec_capacity c.args.ready.now)
-      (rw c.in-Few.is at c.requires.told
-      ∙ ap (λ (ys : List ℕ). ys ++ (woken_but c.args.pid c.in-Few.woke ++ itself_ready c.args.world.now.world c.args.pid))
-      (none_filtered c.args.pid c.args.ready.now.items c.requires.apart)) c.requires.room;
-}
+come-requires c =
+    let told = rw c.in-Few.is at c.requires.told in
+    let stayed : still_ready c.args.world.now.world c.args.pid c.args.ready.now.items ≡ c.args.ready.now.items
+    = told.0 ∙ none_filtered c.args.pid c.args.ready.now.items c.requires.apart in
+    record {
+      told = subst (λ (ks : List ℕ). AreJoining c.args.world.now.world c.args.pid c.args.out.now ks c.in-Few.woke) stayed told.1;
+      room = subst (λ (ks : List ℕ). length (joined_by c.args.world.now.world c.args.pid c.args.out.now ks) ≤ vec_capacity c.args.ready.now) stayed
+          c.requires.room;
+    }
 
 pub returns-in-Few-clause-items : goal.returns-in-Few-clause-items
-returns-in-Few-clause-items c =
-    c.come.ensures.items ∙ (ap (λ (ys : List ℕ). ys ++ (woken_but c.args.pid c.in-Few.woke ++ itself_ready c.args.world.now.world c.args.pid))
-    (sym (none_filtered c.args.pid c.args.ready.now.items c.requires.apart)) ∙ sym (rw c.in-Few.is at c.requires.told))
+returns-in-Few-clause-items c = c.come.ensures.items
+    ∙ ap (joined_by c.args.world.now.world c.args.pid c.args.out.now)
+    (sym ((rw c.in-Few.is at c.requires.told).0 ∙ none_filtered c.args.pid c.args.ready.now.items c.requires.apart))

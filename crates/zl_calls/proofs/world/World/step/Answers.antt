@@ -1,4 +1,4 @@
-use Rattle.zl_calls.proofs.Common.{AreBlocked, List, Seeks, TakesStep, arith, false, false≢true, held, is_local, length, refl, subst, sym, tells_asleep}
+use Rattle.zl_calls.proofs.Common.{AreBlocked, List, Seeks, TakesStep, arith, false, false≢true, held, is_local, length, refl, subst, sym, tells_asleep, None}
 use Rattle.zl_calls.proofs.Common.{then_blocked, true, vec_capacity, ℕ, ◌∙◌, ◌≡◌, ◌≤◌}
 use Rattle.zl_objects.specs.declared.awaited.Awaited.{Awaited}
 use Rattle.zl_calls.specs.Calling.{left_in}
@@ -51,7 +51,8 @@ calm-requires-clause-waits c =
     c.act_for.new.processes.list.items c.act_for.new.objects c.act_for.new.objects c.fall_asleep.new.objects
     c.act_for.new.blocked.items c.in_ok-item.ensures.acts c.in_ok-item.ensures.list c.in_ok-item.ensures.fewer c.in_ok-item.ensures.asleep
     (c.in_ok-item.ensures.unheld (sym c.is_local.ensures ∙ c.if-is_local.false)) c.fall_asleep.ensures
-    c.fire_waits.new.objects c.fire_waits.ensures c.wake-woke.new.processes.list.items c.wake-woke.new.objects c.wake-woke.new.blocked.items c.wake-woke.result
+    c.fire_waits.new.objects c.fire_waits.ensures c.wake-woke.new.processes.list.items c.wake-woke.new.objects c.wake-woke.new.blocked.items
+    c.started_by-started.result c.wake-woke.result
     (rw c.add_blocked.ensures.items at c.wake-woke.ensures.turns)
 
 pub calm-requires-clause-sleepers : goal.calm-requires-clause-sleepers
@@ -61,14 +62,15 @@ pub returns-clause-ran : goal.returns-clause-ran
 returns-clause-ran c = rw (← c.self.view_is, c.calm.ensures)
     (tells_step
     (machine_value c.self.inside.library c.self.inside.processes.list.items c.self.inside.objects c.self.inside.blocked.items) c.args.pid _ c.in_ok-item.item
-    c.wake-woke.result
+    c.started_by-started.result c.wake-woke.result
     (woken_step c.self.inside.library c.self.inside.processes.list.items c.self.inside.objects c.self.inside.blocked.items (vec_capacity c.self.inside.blocked)
     c.args.pid c.in_ok-item.item c.self.invariant
     c.act_for.new.processes.list.items c.act_for.new.objects c.act_for.new.objects c.fall_asleep.new.objects
     c.act_for.new.blocked.items c.in_ok-item.ensures.acts c.in_ok-item.ensures.list c.in_ok-item.ensures.fewer c.in_ok-item.ensures.asleep
     (c.in_ok-item.ensures.unheld (sym c.is_local.ensures ∙ c.if-is_local.false)) c.fall_asleep.ensures
-    c.fire_waits.new.objects c.fire_waits.ensures c.wake-woke.new.processes.list.items c.wake-woke.new.objects c.wake-woke.new.blocked.items c.wake-woke.result
-    (rw c.add_blocked.ensures.items at c.wake-woke.ensures.turns)) c.act_for.new.taken c.in_ok-item.ensures.child _ c.with_started-2.ensures)
+    c.fire_waits.new.objects c.fire_waits.ensures c.wake-woke.new.processes.list.items c.wake-woke.new.objects c.wake-woke.new.blocked.items
+    c.started_by-started.result c.wake-woke.result
+    (rw c.add_blocked.ensures.items at c.wake-woke.ensures.turns)) c.act_for.new.taken c.in_ok-item.ensures.child c.started_by-started.ensures)
 
 pub returns-clause-own : goal.returns-clause-own
 returns-clause-own c = rw (← c.self.view_is, c.calm.ensures)
@@ -77,7 +79,8 @@ returns-clause-own c = rw (← c.self.view_is, c.calm.ensures)
     c.act_for.new.processes.list.items c.act_for.new.objects c.act_for.new.objects c.fall_asleep.new.objects
     c.act_for.new.blocked.items c.in_ok-item.ensures.acts c.in_ok-item.ensures.list c.in_ok-item.ensures.fewer c.in_ok-item.ensures.asleep
     (c.in_ok-item.ensures.unheld (sym c.is_local.ensures ∙ c.if-is_local.false)) c.fall_asleep.ensures
-    c.fire_waits.new.objects c.fire_waits.ensures c.wake-woke.new.processes.list.items c.wake-woke.new.objects c.wake-woke.new.blocked.items c.wake-woke.result
+    c.fire_waits.new.objects c.fire_waits.ensures c.wake-woke.new.processes.list.items c.wake-woke.new.objects c.wake-woke.new.blocked.items
+    c.started_by-started.result c.wake-woke.result
     (rw c.add_blocked.ensures.items at c.wake-woke.ensures.turns) c.in_ok-item.ensures.own)
 
 pub add_blocked-requires : goal.add_blocked-requires
@@ -94,7 +97,8 @@ invariant_of-self-2 c = rw c.calm.ensures
     c.act_for.new.processes.list.items c.act_for.new.objects c.act_for.new.objects c.fall_asleep.new.objects
     c.act_for.new.blocked.items c.in_ok-item.ensures.acts c.in_ok-item.ensures.list c.in_ok-item.ensures.fewer c.in_ok-item.ensures.asleep
     (c.in_ok-item.ensures.unheld (sym c.is_local.ensures ∙ c.if-is_local.false)) c.fall_asleep.ensures
-    c.fire_waits.new.objects c.fire_waits.ensures c.wake-woke.new.processes.list.items c.wake-woke.new.objects c.wake-woke.new.blocked.items c.wake-woke.result
+    c.fire_waits.new.objects c.fire_waits.ensures c.wake-woke.new.processes.list.items c.wake-woke.new.objects c.wake-woke.new.blocked.items
+    c.started_by-started.result c.wake-woke.result
     (rw c.add_blocked.ensures.items at c.wake-woke.ensures.turns) (vec_capacity c.wake-woke.new.blocked)
     (omega (arith, same_length held _ _ c.wake-woke.ensures.turns.held, c.wake-woke.ensures.capacity, c.add_blocked.ensures.capacity, c.act_for.ensures.room)))
 
@@ -104,14 +108,14 @@ pub returns-then-is_quiet-clause-ran : goal.returns-then-is_quiet-clause-ran
 returns-then-is_quiet-clause-ran c = rw (← c.self.view_is, c.add_blocked.ensures.items)
     (tells_step
     (machine_value c.self.inside.library c.self.inside.processes.list.items c.self.inside.objects c.self.inside.blocked.items) c.args.pid _
-    c.in_ok-item.item woke.Nobody
+    c.in_ok-item.item c.started_by-started.result c.of.result
     (quiet_step c.self.inside.library c.self.inside.processes.list.items c.self.inside.objects c.self.inside.blocked.items (vec_capacity c.self.inside.blocked)
     c.args.pid c.in_ok-item.item c.self.invariant
     c.act_for.new.processes.list.items c.act_for.new.objects c.act_for.new.objects c.fall_asleep.new.objects
     c.act_for.new.blocked.items c.in_ok-item.ensures.acts c.in_ok-item.ensures.list c.in_ok-item.ensures.fewer c.in_ok-item.ensures.asleep
     (c.in_ok-item.ensures.unheld (sym c.is_local.ensures ∙ c.if-is_local.false)) c.fall_asleep.ensures
-    (c.is_quiet.ensures.waits c.if-is_quiet.true) (c.is_quiet.ensures.sleepers c.if-is_quiet.true))
-    c.act_for.new.taken c.in_ok-item.ensures.child _ c.with_started.ensures)
+    (c.is_quiet.ensures.waits c.if-is_quiet.true) (c.is_quiet.ensures.sleepers c.if-is_quiet.true) c.started_by-started.result c.of.result c.of.ensures.told)
+    c.act_for.new.taken c.in_ok-item.ensures.child c.started_by-started.ensures)
 
 pub returns-then-is_quiet-clause-own : goal.returns-then-is_quiet-clause-own
 returns-then-is_quiet-clause-own c = rw (← c.self.view_is, c.add_blocked.ensures.items)
@@ -140,10 +144,10 @@ returns-then-is_local-clause-ran c =
     rw (← c.self.view_is)
     (tells_local
     (machine_value c.self.inside.library c.self.inside.processes.list.items c.self.inside.objects c.self.inside.blocked.items) c.args.pid _
-    c.in_ok-item.item woke.Nobody
+    c.in_ok-item.item None woke.Nobody
     (takes_local c.self.inside.library c.self.inside.processes.list.items c.self.inside.objects c.self.inside.blocked.items c.args.pid
     c.act_for.new.processes.list.items c.act_for.new.objects c.act_for.new.blocked.items c.in_ok-item.item local
-    c.in_ok-item.ensures.acts (c.in_ok-item.ensures.quiet local c.self.invariant.awake)) local)
+    c.in_ok-item.ensures.acts (c.in_ok-item.ensures.quiet local c.self.invariant.awake)) local refl)
 
 pub returns-then-is_local-clause-own : goal.returns-then-is_local-clause-own
 returns-then-is_local-clause-own c =

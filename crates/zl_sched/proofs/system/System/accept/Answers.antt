@@ -36,7 +36,7 @@ invariant_of-self-2 c =
     (c.if-is_err-2.ensures {u = tt}).value c.make_room.ensures.room in
     let fits = accepted_room before c.self.invariant.0 c.args.done awaited c.go-change.result.0 c.go-change.new.world c.go-change.new.items.items went in
     let is = queue ∙ requeued_so before c.self.invariant.0 c.args.done awaited c.go-change.result.0 c.go-change.new.world c.go-change.new.items.items went in (
-      rw out (accepted_whole before c.self.invariant.0 c.args.done awaited c.go-change.result.0 c.go-change.new.world c.go-change.new.items.items went room
+      rw (out, c.queue.ensures.world) (accepted_whole before c.self.invariant.0 c.args.done awaited c.go-change.result.0 c.go-change.new.world c.go-change.new.items.items went room
           c.queue.new.ready.items queue),
       omega (arith, fits, places, ap length out, ap length is, c.queue.ensures.capacity),
     )
@@ -52,6 +52,6 @@ returns c =
     let left : c.deref.result.now ≡ others_of c.args.done.pid before.out = c.deref.ensures.value ∙ out in
     let queue : c.queue.new.ready.items ≡ requeued c.go-change.new.world.world c.args.done.pid (others_of c.args.done.pid before.out) before.ready
     = rw (c.pid-pid.ensures, left, c.make_room.ensures.items) at c.queue.ensures.items in
-    rw (← c.self.view_is)
+    rw (← c.self.view_is, c.queue.ensures.world)
     (rw out (accepted_so before c.self.invariant.0 c.args.done awaited c.go-change.result.0 c.go-change.new.world c.go-change.new.items.items went room
     c.queue.new.ready.items queue))

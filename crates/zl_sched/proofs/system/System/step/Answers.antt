@@ -37,7 +37,8 @@ invariant_of-self-2 c =
     = by_requeue before c.self.invariant.0 c.args.pid unmarked c.step.new.self c.in-Some.item did.takes c.move_on.new.ready.items is in
     let room : length before.machine.world.processes ≤ vec_capacity c.make_room.new.ready = done _ _
     (c.if-is_err-2.ensures {u = tt}).value c.make_room.ensures.room in
-    let fits = queue_room before c.self.invariant.0 c.args.pid unmarked c.step.new.self c.in-Some.item did.takes in (
+    let fits = queue_room before c.self.invariant.0 c.args.pid unmarked c.step.new.self c.in-Some.item did.takes in
+    rw c.move_on.ensures.world (
       still_whole before c.self.invariant.0 c.args.pid unmarked c.step.new.self c.in-Some.item did.takes
           (c.in-Some.ensures {u = tt}).own c.push.new.self.items c.move_on.new.ready.items
           (search rules) (omega (arith, c.if-len-self.false, c.len.ensures, c.self.inside.items.ok.0)) queue,
@@ -53,7 +54,7 @@ returns c =
     = rw (c.deref-2.ensures.value, c.make_room.ensures.items) at c.move_on.ensures.items in
     let queue : c.move_on.new.ready.items ≡ queued_after before.machine.world c.args.pid c.step.new.self.world before.ready
     = by_requeue before c.self.invariant.0 c.args.pid unmarked c.step.new.self c.in-Some.item did.takes c.move_on.new.ready.items is in
-    rw (← c.self.view_is)
+    rw (← c.self.view_is, c.move_on.ensures.world)
     (step_told before c.args.pid unmarked c.step.new.self c.push.new.self.items c.move_on.new.ready.items c.in-Some.item did.takes
     (c.in-Some.ensures {u = tt}).own
     (search rules) (omega (arith, c.if-len-self.false, c.len.ensures, c.self.inside.items.ok.0)) queue)

@@ -1,5 +1,5 @@
 use Rattle.zl_sched.proofs.Common.{filter, joins, length, pids_of, take, vec_capacity, ◌++◌, ◌≡◌}
-use Rattle.zl_sched.proofs.ready.join.Given as goal
+use Rattle.zl_sched.proofs.ready.join_all.Given as goal
 
 abbrev pub invariant-loop-n : goal.invariant-loop-n
 invariant-loop-n l =

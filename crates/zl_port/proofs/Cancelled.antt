@@ -29,5 +29,6 @@ module _ (source : Source) (key : ℕ) (packets left : List Packet) (is : left �
   pub still_room : (room reserved count : ℕ) → HasRoom packets room reserved count → HasRoom left room reserved count
   still_room room reserved count has = rw is (record {
     enough = omega (arith, has.enough, length-filter_both (is_from source key) (λ x. not (is_from source key x)) (λ x. refl) packets);
+    small = has.small;
     counted = rw (users_stay source key packets) has.counted;
   })

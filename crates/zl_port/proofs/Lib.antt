@@ -1,1 +1,3 @@
 pub mod Cancelled
+pub mod Counting
+pub mod Queued

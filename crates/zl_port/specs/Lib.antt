@@ -1,2 +1,3 @@
+pub mod Buckets
 pub mod Packets
 pub mod Room

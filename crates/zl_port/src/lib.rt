@@ -6,8 +6,10 @@
 //! and counts just what it names. Where a method names no source, that of its type is meant.
 #![tactic(auto)]
 
+mod buckets;
 mod packet;
 mod port;
+mod queue;
 
 pub use packet::{Packet, PacketKind, Source};
 pub use port::{Port, QueueFault};

@@ -1,11 +1,10 @@
-ghost use Rattle.std.specs.Prelude.{◌≡◌, ◌↔◌, ◌+◌, ◌<◌, ◌≤◌, [], Err, OnOk, OnErr, filter, length, nat_lt, not, slice_get};
+ghost use Rattle.std.specs.Prelude.{◌≡◌, ◌↔◌, ◌+◌, ◌^◌, ◌<◌, ◌≤◌, [], Err, OnOk, OnErr, filter, length, nat_lt, not, slice_get};
 ghost use Rattle.zl_rights.specs.Signals.{is_empty};
-ghost use Rattle.std.specs.VecDeque.{deque_capacity, deque_len};
 ghost use Rattle.zl_port.specs.Packets.{MOST_USER_PACKETS, is_from, user_count, user_packet, with_packet, with_place, without_front, without_packets, without_place};
 
 use crate::packet::{Packet, Source};
+use crate::queue::Queue;
 use std::alloc::{AllocError, Global};
-use std::collections::VecDeque;
 use std::marker::Model;
 
 /// Why a packet of a call was refused.
@@ -23,23 +22,22 @@ pub enum QueueFault {
 #[derive(Drop)]
 pub struct Port {
     // There is room for the reserved places too, so that their packets take no memory.
-    queue: VecDeque<Packet>,
+    queue: Queue,
     reserved: usize,
     // How many of the packets calls have queued.
     user_packets: usize,
 }
 
 impl Model for Port {
-    ghost use Rattle.std.specs.VecDeque.{deque_capacity};
     ghost use Rattle.zl_port.specs.Packets.{Port as PortValue};
     ghost use Rattle.zl_port.specs.Room.{HasRoom};
 
     ghost Value = { PortValue };
 
-    ghost view = { λ p. record { packets = p.queue.items; reserved = p.reserved } };
+    ghost view = { λ p. record { packets = p.queue.packets; reserved = p.reserved } };
 
     ghost invariant = { λ p.
-        HasRoom p.queue.items (deque_capacity p.queue) p.reserved p.user_packets };
+        HasRoom p.queue.packets p.queue.room p.reserved p.user_packets };
 }
 
 impl Port {
@@ -51,7 +49,7 @@ impl Port {
         ensures { result ≡ record { packets = []; reserved = 0 } }
     {
         Port {
-            queue: VecDeque::new(alloc),
+            queue: Queue::new(alloc),
             reserved: 0,
             user_packets: 0,
         }
@@ -74,7 +72,7 @@ impl Port {
         if make_room(&mut self.queue, self.reserved).is_err() {
             return Err(QueueFault::NoMemory);
         }
-        self.queue.push_back_reserved(Packet::user(key, value));
+        self.queue.push(Packet::user(key, value));
         self.user_packets += 1;
         Ok(())
     }
@@ -129,7 +127,7 @@ impl Port {
         if packet.is_user() {
             self.user_packets += 1;
         }
-        self.queue.push_back_reserved(packet);
+        self.queue.push(packet);
         self.reserved -= 1;
     }
 
@@ -140,7 +138,7 @@ impl Port {
         ensures first { result ≡ slice_get self.old.packets 0 }
         ensures rest { self.new ≡ without_front self.old }
     {
-        let packet = self.queue.pop_front()?;
+        let packet = self.queue.pop()?;
         if packet.is_user() {
             self.user_packets -= 1;
         }
@@ -156,31 +154,21 @@ impl Port {
         ensures rest { self.new ≡ without_packets self.old (is_from source key) }
         ensures count { result ≡ length (filter (is_from source key) self.old.packets) }
     {
-        take_from(&mut self.queue, source, key)
+        self.queue.cancel(source, key)
     }
 }
 
 /// Makes room for one packet more beside so many reserved places.
-fn make_room(queue: &mut VecDeque<Packet>, reserved: usize) -> Result<(), AllocError>
-    requires { deque_len queue.old + reserved ≤ deque_capacity queue.old }
-    ensures packets { queue.new.items ≡ queue.old.items }
-    ensures ok { OnOk result (deque_len queue.old + reserved < deque_capacity queue.new) }
-    ensures grown { deque_capacity queue.old ≤ deque_capacity queue.new }
+fn make_room(queue: &mut Queue, reserved: usize) -> Result<(), AllocError>
+    requires { length queue.old.packets + reserved ≤ queue.old.room }
+    ensures packets { queue.new.packets ≡ queue.old.packets }
+    ensures ok { OnOk result (length queue.old.packets + reserved < queue.new.room) }
+    ensures grown { queue.old.room ≤ queue.new.room }
+    ensures small { queue.new.room < 2 ^ 63 }
 {
-    if queue.capacity() - queue.len() > reserved {
+    if queue.room() - queue.len() > reserved {
         return Ok(());
     }
     // For as many places again, so that reserving them one by one seldom takes memory.
     queue.reserve(2 * reserved + 1)
-}
-
-/// Takes out the packets with this key that waits of this source gave, and says how many they were.
-fn take_from(queue: &mut VecDeque<Packet>, source: Source, key: u64) -> usize
-    ensures rest { queue.new.items ≡ filter (λ x. not (is_from source key x)) queue.old.items }
-    ensures count { result ≡ length (filter (is_from source key) queue.old.items) }
-    ensures room { deque_capacity queue.new ≡ deque_capacity queue.old }
-{
-    let before = queue.len();
-    queue.retain(|packet| !packet.is_from(source, key));
-    before - queue.len()
 }

@@ -132,3 +132,98 @@ fn a_refused_place_is_found_once_more(rt: HostRuntime) -> Result<(), Fail> {
     assert!(rt; port.pop().is_none());
     Ok(())
 }
+
+/// The source with this number, of which each of three parts tells two apart.
+fn source_of(number: u64) -> Source {
+    Source {
+        pid: 2 + number % 2,
+        value: if number / 2 % 2 == 0 { 1 } else { 5 },
+        object: 4 + number / 4 % 2,
+    }
+}
+
+/// Packets as a plain program keeps them: number of the source, or 8 for a call, key and word.
+#[derive(Drop)]
+struct Plain {
+    packets: Vec<[u64; 3]>,
+}
+
+impl Plain {
+    fn pop(&mut self) -> Option<[u64; 3]> {
+        if self.packets.is_empty() {
+            return None;
+        }
+        Some(self.packets.remove(0))
+    }
+
+    fn cancel(&mut self, number: u64, key: u64) -> usize {
+        let before = self.packets.len();
+        self.packets
+            .retain(|packet| packet[0] != number || packet[1] != key);
+        before - self.packets.len()
+    }
+}
+
+/// Queues the packet of a wait, or of a call where there is no such source; once more where there
+/// was no memory for it.
+fn queue_one(port: &mut Port, [number, key, word]: [u64; 3]) -> bool {
+    if number == 8 {
+        return port.queue_user(key, word).is_ok() || port.queue_user(key, word).is_ok();
+    }
+    if port.reserve_wait().is_err() && port.reserve_wait().is_err() {
+        return false;
+    }
+    port.queue_signal(Packet {
+        trigger: word,
+        ..signal(source_of(number), key)
+    });
+    true
+}
+
+/// The numbers of a packet that the plain program keeps, as a process gets them.
+fn plain_numbers(packet: Option<[u64; 3]>) -> Option<[u64; 4]> {
+    let [number, key, word] = packet?;
+    if number == 8 {
+        return Some([key, 0, word, 0]);
+    }
+    Some([key, 1, word, 8])
+}
+
+/// Thousands of steps chosen by a fixed rule, each done by the port and by the plain program. Of
+/// eight sources with four keys many packets lie at the port at once. With the fifth key there is
+/// none, and in the few buckets others lie where such would.
+#[test]
+fn a_port_does_what_the_plain_program_does(rt: HostRuntime) -> Result<(), Fail> {
+    let mut port = Port::new(rt.alloc());
+    let mut plain = Plain {
+        packets: Vec::new(rt.alloc()),
+    };
+    let mut state: u64 = 1;
+    for word in 0..3000 {
+        state = state
+            .wrapping_mul(6_364_136_223_846_793_005)
+            .wrapping_add(1);
+        let number = (state >> 33) % 9;
+        let key = (state >> 40) % 5;
+        let choice = (state >> 50) % 32;
+        if choice < 22 {
+            let queued = [number, key.min(3), word];
+            assert!(rt; queue_one(&mut port, queued));
+            if plain.packets.push(queued).is_err() {
+                plain.packets.push(queued)?;
+            }
+        } else if choice < 29 {
+            assert_eq!(rt; numbers(port.pop()), plain_numbers(plain.pop()));
+        } else if number < 8 {
+            assert_eq!(rt;
+                port.cancel(source_of(number), key),
+                plain.cancel(number, key)
+            );
+        }
+    }
+    for _ in 0..plain.packets.len() {
+        assert_eq!(rt; numbers(port.pop()), plain_numbers(plain.pop()));
+    }
+    assert!(rt; port.pop().is_none());
+    Ok(())
+}

@@ -3,4 +3,4 @@ use Rattle.zl_port.proofs.port.Port.cancel.Goals as goal
 
 pub invariant_of-self : goal.invariant_of-self
 invariant_of-self c =
-    rw c.take_from.ensures.room (still_room c.args.source c.args.key _ _ c.take_from.ensures.rest _ _ _ c.self.invariant)
+    rw c.cancel.ensures.room (still_room c.args.source c.args.key _ _ c.cancel.ensures.rest _ _ _ c.self.invariant)

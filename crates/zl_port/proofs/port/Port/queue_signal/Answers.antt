@@ -3,12 +3,4 @@ use Rattle.zl_port.proofs.Cancelled.{few_users}
 use Rattle.zl_port.proofs.port.Port.queue_signal.Goals as goal
 
 pub overflow_add-self : goal.overflow_add-self
-overflow_add-self c =
-    omega (
-      arith,
-      few_users c.self.inside.queue.items,
-      c.self.invariant.counted,
-      c.self.inside.queue.ok.0,
-      c.self.inside.queue.small.0,
-      c.self.inside.queue.small.1,
-    )
+overflow_add-self c = omega (arith, few_users c.self.inside.queue.packets)

@@ -6,7 +6,6 @@ use Rattle.zl_objects.proofs.Common.{is_named, is_some, is_sorted-update, is_unk
 use Rattle.zl_objects.proofs.Common.{map-append, named_in, nat_lt, nat_tests, none-some, option_to_list, or_cases, or_left, or_parts, or_right, queue_held}
 use Rattle.zl_objects.proofs.Common.{refl, same_Some, slice_get, sorted_without, stays_alone, sym, take, take_more, true, unkept_at, update, waits_end, without}
 use Rattle.zl_objects.proofs.Common.{ℕ, ◌++◌, ◌+◌, ◌<◌, ◌==◌, ◌||◌, ◌∙◌, ◌∷◌, ◌≡◌, ◌≤◌, ◌⊎◌, []}
-use Rattle.zl_objects.specs.declared.object.Body.TheVariants as body
 use Rattle.zl_objects.proofs.Bare.{has_same, length_same, named_same, still_kept}
 use Rattle.zl_objects.proofs.Ending.{ending_bare, ending_gone, ending_places, ending_thins}
 use Rattle.zl_objects.proofs.Places.{places_updated}

@@ -20,7 +20,7 @@ pub use Rattle.std.proofs.lemmas.List.Sums.{count_by-le-length, sum_by-append}
 pub use Rattle.std.proofs.lemmas.Map.Views.{any-filter_same}
 pub use Rattle.std.specs.BTreeMap.{BTreeMap, IsUpperBound, insert_entry, is_at, keys}
 pub use Rattle.std.specs.BTreeMap.Range.{IsInRange, IsRangeOf, range_contains}
-pub use Rattle.std.specs.BTreeSet.{IsKeyRangeOf, Updates, contains}
+pub use Rattle.std.specs.BTreeSet.{BTreeSet, IsKeyRangeOf, Updates, contains}
 pub use Rattle.std.specs.Cmp.{unsigned_tied}
 pub use Rattle.std.specs.List.{AllByRecursion, Contains, insert, position_or_len, remove}
 pub use Rattle.std.specs.List.Sorted.{IsBinarySearchResult, IsNonDecreasingBy, IsPartitionedBy, IsPermutation, IsSearchInRange}
@@ -36,7 +36,8 @@ pub use Rattle.zl_objects.specs.Calm.{is_watched, is_watched_in, slept}
 pub use Rattle.zl_objects.specs.Due.{earlier, earliest_from, is_entry_due, order_at}
 pub use Rattle.zl_objects.specs.Dying.{HasPeerHere, IsKept, IsPeerHere, IsWhole, LetsGo, Thins, is_last, is_named, is_unkept, left_at, unkept_at}
 unfoldable pub use Rattle.zl_objects.specs.Dying.{budget}
-pub use Rattle.zl_objects.specs.Index.{ArePaired, IsIndexed, OthersStayListed, StayListed, above_of, is_under, lists, pair_cmp, passes_in}
+pub use Rattle.zl_objects.specs.Index.{ArePaired, IsBuried, IsIndexed, KeepPairs, ListsChild, NoMoreLive, OthersStayListed, StayListed, above_of, has_pair}
+pub use Rattle.zl_objects.specs.Index.{is_under, lists, lists_living, pair_cmp, passes_in}
 pub use Rattle.zl_objects.specs.Jobs.{is_below, is_job_below_here, is_process_below, is_within_here, killed, killed_body, killed_if, killing, parent_at}
 pub use Rattle.zl_objects.specs.Jobs.{parent_found, parent_held, with_policy_body, with_policy_set}
 unfoldable pub use Rattle.zl_objects.specs.Jobs.{all_killed, descendants, has_job_below, has_process_below, is_below_by}

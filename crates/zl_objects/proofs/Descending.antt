@@ -103,7 +103,7 @@ module _ (children : Children) (m : Map Object) (indexed : IsIndexed children m)
 
       by_object : (q : Option Object) → get m c ≡ q → IsTrue (parent_found q == job) → (0 < c) × IsTrue (lists children job c)
       by_object None is h = absurd (false≢true (no_parent h))
-      by_object (Some o) is h = (positive c (rw is refl), indexed.listed c job o is (by_body o.body h))
+      by_object (Some o) is h = (positive c (rw is refl), (indexed.listed c o is).under job (by_body o.body h))
 
 -- what is listed under the job as far as this one is among these, and what stands so many levels below it
 abbrev pub HasUntil : Children → ℕ → ℕ → ℕ → List ℕ → Type 0

@@ -1,13 +1,15 @@
 -- The index of what stands below jobs: what it finds, and that it fits the objects after each change.
-use Rattle.zl_objects.proofs.Common.{ArePaired, Body, Bool, Cascades, Children, Err, HasPeerHere, IfSome, IsIndexed, IsTrue, List, Map, None, Object, Ok, OnErr}
-use Rattle.zl_objects.proofs.Common.{OnOk, Option, OthersStayListed, Pair, Port, Result, Some, StayListed, Updates, Watch, [], above_of, all_killed, and_from}
-use Rattle.zl_objects.proofs.Common.{and_parts, any-filter_same, ap, arith, at_port, below_all, cases_Bool, contains, each, end_to, ending_waits, eq-eqb}
-use Rattle.zl_objects.proofs.Common.{eqb-true, false, false≢true, filter, get, get-each, get-put, goes, has_key, held_once_less, if◌then◌else◌, inl, inr}
-use Rattle.zl_objects.proofs.Common.{insert_entry, is_alive, is_at, is_child, is_end_body, is_job_below_here, is_koid, is_lt, is_process_below, is_sorted}
-use Rattle.zl_objects.proofs.Common.{is_sorted-update, is_under, is_within_here, killed, killed_if, let_go, list_any, list_any-weaker, lists, lookup, nat_cmp}
-use Rattle.zl_objects.proofs.Common.{nat_lt, nat_tests, none-some, none_left, not, option_map, or_cases, or_left, or_right, pair_cmp, passes_in, peer_of, put}
-use Rattle.zl_objects.proofs.Common.{range_contains, refl, same_Some, set_value, sorted_put, sorted_without, stopped, sym, true, unsigned_tied, unwatched}
-use Rattle.zl_objects.proofs.Common.{update, waits_end, without, ℕ, ◌&&◌, ◌+◌, ◌-◌, ◌<◌, ◌==◌, ◌^◌, ◌||◌, ◌∙◌, ◌∷◌, ◌≡◌, ◌≤◌, ◌⊎◌}
+use Rattle.zl_objects.proofs.Common.{ArePaired, BTreeSet, Body, Bool, Cascades, Children, Err, HasPeerHere, IsIndexed, IsTrue, KeepPairs, List, ListsChild}
+use Rattle.zl_objects.proofs.Common.{Map, None, Object, Ok, OnErr, OnOk, Option, OthersStayListed, Pair, Port, Result, Some, StayListed, Updates, Watch}
+use Rattle.zl_objects.proofs.Common.{[], all_killed, and_from, and_parts, any-filter_same, ap, arith, at_port, below_all, cases_Bool, contains, each}
+use Rattle.zl_objects.proofs.Common.{end_to, ending_waits, eq-eqb, eqb-true, false, false≢true, filter, get, get-each, get-put, goes, has_job_below}
+use Rattle.zl_objects.proofs.Common.{has_key, has_living_child_here, has_pair, has_process_below, held_once_less, if◌then◌else◌, inl, inr, insert_entry}
+use Rattle.zl_objects.proofs.Common.{is_alive, is_at, is_child, is_end_body, is_job_below_here, is_koid, is_lt, is_process_below, is_sorted}
+use Rattle.zl_objects.proofs.Common.{is_sorted-update, is_under, is_within_here, keeper_of, killed, killed_body, killed_if, let_go, list_any}
+use Rattle.zl_objects.proofs.Common.{list_any-weaker, lookup, nat_cmp, nat_lt, nat_tests, none-some, none_left, not, option_map, or_cases, or_left}
+use Rattle.zl_objects.proofs.Common.{or_right, pair_cmp, passes_in, peer_of, put, range_contains, refl, same_Some, set_value, sorted_put, sorted_without}
+use Rattle.zl_objects.proofs.Common.{stopped, stopped_body, subst, sym, true, unsigned_tied, unwatched, update, waits_end, without, ℕ, ◌&&◌, ◌+◌, ◌-◌, ◌<◌}
+use Rattle.zl_objects.proofs.Common.{◌==◌, ◌^◌, ◌||◌, ◌∙◌, ◌∷◌, ◌≡◌, ◌≤◌, ◌⊎◌}
 use Rattle.std.specs.declared.ops.Bound.TheVariants.{Included}
 use Rattle.zl_objects.specs.declared.object.Body.TheVariants as body
 use Rattle.zl_objects.specs.declared.object.Pair.TheVariants as pair
@@ -22,29 +24,30 @@ use Rattle.zl_objects.proofs.Found.{Found, any_found}
 use Rattle.zl_objects.proofs.Released.{Was, cascaded_was}
 use Rattle.zl_rights.proofs.Settling.{same_tests}
 use Rattle.zl_rights.proofs.MapTests.{any_at}
-use Rattle.zl_objects.proofs.Tasks.{killed_same}
 use Rattle.zl_objects.proofs.Whole.{end_of, end_peer}
 
 -- ---- what is listed
 
-module _ (old new : Children) (job koid : ℕ) where
-  listed_if : (j k : ℕ) → (IsTrue (contains pair_cmp old.pairs (j, k)) → IsTrue (contains pair_cmp new.pairs (j, k))) → IsTrue (lists old j k)
-      → IsTrue (lists new j k)
-  listed_if j k more h =
-      let parts = and_parts (nat_lt k (2 ^ 64)) (contains pair_cmp old.pairs (j, k)) h in
-      and_from (nat_lt k (2 ^ 64)) (contains pair_cmp new.pairs (j, k)) parts.0 (more parts.1)
+module _ (old new : BTreeSet (ℕ × ℕ)) (job koid : ℕ) where
+  pub there_if : (j k : ℕ) → (IsTrue (contains pair_cmp old (j, k)) → IsTrue (contains pair_cmp new (j, k))) → IsTrue (has_pair old j k)
+      → IsTrue (has_pair new j k)
+  there_if j k more h =
+      let parts = and_parts (nat_lt k (2 ^ 64)) (contains pair_cmp old (j, k)) h in
+      and_from (nat_lt k (2 ^ 64)) (contains pair_cmp new (j, k)) parts.0 (more parts.1)
 
-  pub added_more : Updates pair_cmp old.pairs new.pairs (job, koid) true → StayListed old new
-  added_more updates j k = listed_if j k (λ h. updates.0 (j, k) ∙ by_test (is_at (pair_cmp (job, koid)) (j, k)) h)
-    where
-      by_test : (b : Bool) → IsTrue (contains pair_cmp old.pairs (j, k)) → IsTrue (if b then true else contains pair_cmp old.pairs (j, k))
-      by_test true h = refl
-      by_test false h = h
-
-  pub removed_others : Updates pair_cmp old.pairs new.pairs (job, koid) false → OthersStayListed koid old new
-  removed_others updates j k apart =
+  pub others_keep : (b : Bool) → Updates pair_cmp old new (job, koid) b → KeepPairs koid old new
+  others_keep b updates j k apart =
       let other : is_at (pair_cmp (job, koid)) (j, k) ≡ false = grind (arith, nat_tests, unsigned_tied job j, unsigned_tied koid k, apart) in
-      listed_if j k (λ h. updates.0 (j, k) ∙ rw other h)
+      there_if j k (λ h. updates.0 (j, k) ∙ rw other h)
+
+module _ {children children2 : Children} where
+  pub others_listed : (koid : ℕ) → KeepPairs koid children.pairs children2.pairs → KeepPairs koid children.jobs children2.jobs
+      → KeepPairs koid children.processes children2.processes → OthersStayListed koid children children2
+  others_listed koid all jobs processes k b apart listed = record {
+    under = λ j h. all j k apart (listed.under j h);
+    jobs = λ j h. jobs j k apart (listed.jobs j h);
+    processes = λ j h. processes j k apart (listed.processes j h);
+  }
 
 -- ---- what is found under a job
 
@@ -89,21 +92,20 @@ child_under j (body.Process job l) h = by_test (is_alive l) h
     by_test false h = absurd (false≢true h)
 child_under j _ h = h
 
--- a test of the living children of a job alone finds the same under the job as among all objects
-pub any_child : (test : Body → Bool) (children : Children) (m : Map Object) (job : ℕ) → IsIndexed children m
-    → ((b : Body) → IsTrue (test b) → IsTrue (is_child job b))
-    → list_any (λ x. passes_in test (get m x.1)) (filter (in_range job) children.pairs.keys) ≡ list_any (λ e. test e.1.body) m
-any_child test children m job indexed only =
-    same_tests (list_any (λ x. passes_in test (get m x.1)) (filter (in_range job) children.pairs.keys)) (list_any (λ e. test e.1.body) m)
-    (any_there test m (filter (in_range job) children.pairs.keys)) back
+-- where all that pass the test are among the pairs of the job, it finds the same there as among all objects
+pub any_child : (test : Body → Bool) (pairs : BTreeSet (ℕ × ℕ)) (m : Map Object) (job : ℕ) → IsTrue (is_sorted nat_cmp m)
+    → ((k : ℕ) (o : Object) → get m k ≡ Some o → IsTrue (test o.body) → IsTrue (has_pair pairs job k))
+    → list_any (λ x. passes_in test (get m x.1)) (filter (in_range job) pairs.keys) ≡ list_any (λ e. test e.1.body) m
+any_child test pairs m job sorted there =
+    same_tests (list_any (λ x. passes_in test (get m x.1)) (filter (in_range job) pairs.keys)) (list_any (λ e. test e.1.body) m)
+    (any_there test m (filter (in_range job) pairs.keys)) back
   where
-    back : IsTrue (list_any (λ e. test e.1.body) m) → IsTrue (list_any (λ x. passes_in test (get m x.1)) (filter (in_range job) children.pairs.keys))
+    back : IsTrue (list_any (λ e. test e.1.body) m) → IsTrue (list_any (λ x. passes_in test (get m x.1)) (filter (in_range job) pairs.keys))
     back some =
-        let found : Found (λ e. test e.1.body) m = any_found (λ e. test e.1.body) m indexed.in_order some in
-        let listed =
-        and_parts (nat_lt found.key (2 ^ 64)) (contains pair_cmp children.pairs (job, found.key))
-        (indexed.listed found.key job found.value found.at (child_under job found.value.body (only found.value.body found.passes))) in
-        any_listed (λ k. passes_in test (get m k)) job found.key (grind (arith, nat_tests, listed.0)) (rw found.at found.passes) children.pairs.keys listed.1
+        let found : Found (λ e. test e.1.body) m = any_found (λ e. test e.1.body) m sorted some in
+        let parts =
+        and_parts (nat_lt found.key (2 ^ 64)) (contains pair_cmp pairs (job, found.key)) (there found.key found.value found.at found.passes) in
+        any_listed (λ k. passes_in test (get m k)) job found.key (grind (arith, nat_tests, parts.0)) (rw found.at found.passes) pairs.keys parts.1
 
 -- ---- what is a child
 
@@ -126,6 +128,11 @@ job_is_child j b h = child_is j b ∙ or_left (is_job_below_here j b) _ h
 pub process_is_child : (j : ℕ) (b : Body) → IsTrue (is_process_below j b) → IsTrue (is_child j b)
 process_is_child j b h = child_is j b ∙ or_right (is_job_below_here j b) _ h
 
+pub any_either : (m : Map Object) (j : ℕ) → has_living_child_here m j ≡ (has_job_below m j || has_process_below m j)
+unfolding has_living_child_here has_job_below has_process_below
+any_either [] j = refl
+any_either (e ∷ m) j = grind (arith, child_is j e.1.body, any_either m j)
+
 -- it makes no child
 abbrev pub MakesNone : (Object → Object) → Type 0
 MakesNone f = (j : ℕ) (o : Object) → IsTrue (is_child j (f o).body) → IsTrue (is_child j o.body)
@@ -146,17 +153,67 @@ killed_none true j o h = by_body o.body h
     by_body (body.Process job l) h = absurd (false≢true h)
     by_body _ h = h
 
+-- ---- what stands where another stood
+
+-- it stands below a job where the other did, as a living job or process too, and its peer is the same
+pub record IsNoMore (b c : Body) : Type 0 where
+  pub under : (j : ℕ) → IsTrue (is_under j c) → IsTrue (is_under j b)
+  pub jobs : (j : ℕ) → IsTrue (is_job_below_here j c) → IsTrue (is_job_below_here j b)
+  pub processes : (j : ℕ) → IsTrue (is_process_below j c) → IsTrue (is_process_below j b)
+  pub peer : peer_of c ≡ peer_of b
+
+same_stands : (b : Body) → IsNoMore b b
+same_stands b = record { under = λ j h. h; jobs = λ j h. h; processes = λ j h. h; peer = refl }
+
+pub stopped_stands : (b : Body) → IsNoMore b (stopped_body b)
+stopped_stands (body.Process job l) = record {
+  under = λ j h. h;
+  jobs = λ j h. h;
+  processes = λ j h. absurd (false≢true (and_parts (job == j) false h).1);
+  peer = refl;
+}
+stopped_stands b = same_stands b
+
+killed_stands : (b : Body) → IsNoMore b (killed_body b)
+killed_stands (body.Job own) = record {
+  under = λ j h. h;
+  jobs = λ j h. absurd (false≢true (and_parts (own.parent == j) false h).1);
+  processes = λ j h. h;
+  peer = refl;
+}
+killed_stands b = stopped_stands b
+
+killed_if_stands : (kills : Bool) (o : Object) → IsNoMore o.body (killed_if kills o).body
+killed_if_stands true o = killed_stands o.body
+killed_if_stands false o = same_stands o.body
+
+no_more_listed : {children : Children} (k : ℕ) {b c : Body} → IsNoMore b c → ListsChild children k b → ListsChild children k c
+no_more_listed k no_more listed = record {
+  under = λ j h. listed.under j (no_more.under j h);
+  jobs = λ j h. listed.jobs j (no_more.jobs j h);
+  processes = λ j h. listed.processes j (no_more.processes j h);
+}
+
 -- ---- ends and their peers
 
--- what is left was there before, and the end of the same peer
-abbrev WereEnds : Map Object → Map Object → Type 0
-WereEnds m m2 = (k : ℕ) (o2 : Object) → get m2 k ≡ Some o2 → (o : Object) × (get m k ≡ Some o) × (peer_of o2.body ≡ peer_of o.body)
+-- what is left stands where it did
+abbrev Stand : Map Object → Map Object → Type 0
+Stand m m2 = (k : ℕ) (o2 : Object) → get m2 k ≡ Some o2 → (o : Object) × (get m k ≡ Some o) × IsNoMore o.body o2.body
 
-still_paired : (m m2 : Map Object) → WereEnds m m2 → ArePaired m → ArePaired m2
-still_paired m m2 were paired k p o q at there is =
-    let end : (x : Object) × (get m k ≡ Some x) × (peer_of o.body ≡ peer_of x.body) = were k o at in
-    let peer : (x : Object) × (get m p ≡ Some x) × (peer_of q.body ≡ peer_of x.body) = were p q there in
-    peer.2 ∙ paired k p end.0 peer.0 end.1 peer.1 (sym end.2 ∙ is)
+still_paired : (m m2 : Map Object) → Stand m m2 → ArePaired m → ArePaired m2
+still_paired m m2 stand paired k p o q at there is =
+    let end : (x : Object) × (get m k ≡ Some x) × IsNoMore x.body o.body = stand k o at in
+    let peer : (x : Object) × (get m p ≡ Some x) × IsNoMore x.body q.body = stand p q there in
+    peer.2.peer ∙ paired k p end.0 peer.0 end.1 peer.1 (sym end.2.peer ∙ is)
+
+still_indexed : {children : Children} (m m2 : Map Object) → IsTrue (is_sorted nat_cmp m2) → Stand m m2 → IsIndexed children m → IsIndexed children m2
+still_indexed m m2 in_order stand indexed = record {
+  in_order = in_order;
+  listed = λ k o at.
+      let was : (x : Object) × (get m k ≡ Some x) × IsNoMore x.body o.body = stand k o at in
+      no_more_listed k was.2 (indexed.listed k was.0 was.1);
+  paired = still_paired m m2 stand indexed.paired;
+}
 
 -- the ends whose peer a new object with this body is are its peers
 abbrev IsPairedWith : Map Object → ℕ → Body → Type 0
@@ -231,36 +288,33 @@ sorted_each f (e ∷ m) = λ i. below_each m i && sorted_each f m i
 module _ {children : Children} where
   pub none_indexed : (m : Map Object) → m ≡ [] → IsIndexed children m
   unfolding get
-  none_indexed m none = rw none (record { in_order = refl; listed = λ k j o at child. absurd (none-some o at); paired = λ k p o q at. absurd (none-some o at) })
+  none_indexed m none = rw none (record { in_order = refl; listed = λ k o at. absurd (none-some o at); paired = λ k p o q at. absurd (none-some o at) })
 
   -- one of the objects is written
-  pub updated_indexed : {m n : Map Object} (f : Object → Object) → ((o : Object) → above_of (f o).body ≡ above_of o.body)
-      → ((o : Object) → peer_of (f o).body ≡ peer_of o.body) → (k : ℕ) → IsIndexed children m → n ≡ update m k f → IsIndexed children n
-  updated_indexed {m} {n} f above peer k indexed is = rw is (record {
-    in_order = is_sorted-update m k f ∙ indexed.in_order;
-    listed = λ i j o at child. by_key i j o (changed f m k i o at) child;
-    paired = still_paired m (update m k f) (λ i o at. end i o (changed f m k i o at)) indexed.paired;
-  })
+  pub updated_indexed : {m n : Map Object} (f : Object → Object) → ((o : Object) → IsNoMore o.body (f o).body) → (k : ℕ) → IsIndexed children m
+      → n ≡ update m k f → IsIndexed children n
+  updated_indexed {m} {n} f no_more k indexed is =
+      rw is (still_indexed m (update m k f) (is_sorted-update m k f ∙ indexed.in_order) (λ i o at. by_key i o (changed f m k i o at)) indexed)
     where
-      by_key : (i j : ℕ) (o : Object) → Changed f m k i o → IsTrue (is_under j o.body) → IsTrue (lists children j i)
-      by_key i j o c child =
-          indexed.listed i j c.before c.there (by_test (k == i) (ap (λ (x : Object). is_under j x.body) (sym c.is) ∙ child))
-        where
-          by_test : (b : Bool) → IsTrue (is_under j (if b then f c.before else c.before).body) → IsTrue (is_under j c.before.body)
-          by_test true h = ap (is_koid j) (sym (above c.before)) ∙ h
-          by_test false h = h
-
-      end : (i : ℕ) (o2 : Object) → Changed f m k i o2 → (o : Object) × (get m i ≡ Some o) × (peer_of o2.body ≡ peer_of o.body)
-      end i o2 c = (
+      by_key : (i : ℕ) (o2 : Object) → Changed f m k i o2 → (o : Object) × (get m i ≡ Some o) × IsNoMore o.body o2.body
+      by_key i o2 c = (
         c.before,
         c.there,
-        ap (λ (x : Object). peer_of x.body) c.is
-            ∙ elim (k == i) as (λ b. peer_of (if b then f c.before else c.before).body ≡ peer_of c.before.body) [ true ↦ peer c.before | false ↦ refl ],
+        subst (λ (x : Object). IsNoMore c.before.body x.body) (sym c.is) (by_test (k == i)),
       )
+        where
+          by_test : (b : Bool) → IsNoMore c.before.body (if b then f c.before else c.before).body
+          by_test true = no_more c.before
+          by_test false = same_stands c.before.body
 
   -- and stays where it stands
   pub kept_indexed : {m n : Map Object} (f : Object → Object) → Keeps f → (k : ℕ) → IsIndexed children m → n ≡ update m k f → IsIndexed children n
-  kept_indexed f keeps = updated_indexed f keeps.above keeps.peer
+  kept_indexed f keeps = updated_indexed f (λ o. record {
+    under = λ j h. ap (is_koid j) (sym (keeps.above o)) ∙ h;
+    jobs = λ j h. sym (keeps.jobs j o) ∙ h;
+    processes = λ j h. sym (keeps.processes j o) ∙ h;
+    peer = keeps.peer o;
+  })
 
   pub port_indexed : {m n : Map Object} (g : Port → Port) (k : ℕ) → IsIndexed children m → n ≡ update m k (at_port g) → IsIndexed children n
   port_indexed g = kept_indexed (at_port g) (keeps_port g)
@@ -277,42 +331,37 @@ module _ {children : Children} where
   -- a job was killed, and what stands below it
   pub killed_indexed : {m n : Map Object} (task : ℕ) → IsIndexed children m → n ≡ all_killed m task → IsIndexed children n
   unfolding all_killed
-  killed_indexed {m} {n} task indexed is = rw is (record {
-    in_order = sorted_each (λ j. killed_if (is_within_here m task j)) m ∙ indexed.in_order;
-    listed = λ k j o at child. by_object k j o (get m k) refl (sym (get-each m (λ i. killed_if (is_within_here m task i)) k) ∙ at) child;
-    paired = still_paired m (each (λ j. killed_if (is_within_here m task j)) m)
-        (λ k o at. end k o (get m k) refl (sym (get-each m (λ i. killed_if (is_within_here m task i)) k) ∙ at)) indexed.paired;
-  })
+  killed_indexed {m} {n} task indexed is =
+      rw is (still_indexed m (each kills m) (sorted_each kills m ∙ indexed.in_order)
+      (λ k o at. by_object k o (get m k) refl (sym (get-each m kills k) ∙ at)) indexed)
     where
-      end : (k : ℕ) (o2 : Object) (q : Option Object) → get m k ≡ q → option_map (killed_if (is_within_here m task k)) q ≡ Some o2
-          → (o : Object) × (get m k ≡ Some o) × (peer_of o2.body ≡ peer_of o.body)
-      end k o2 None was at = absurd (none-some o2 at)
-      end k o2 (Some o) was at = (
+      kills : ℕ → Object → Object
+      kills j = killed_if (is_within_here m task j)
+
+      by_object : (k : ℕ) (o2 : Object) (q : Option Object) → get m k ≡ q → option_map (kills k) q ≡ Some o2
+          → (o : Object) × (get m k ≡ Some o) × IsNoMore o.body o2.body
+      by_object k o2 None was at = absurd (none-some o2 at)
+      by_object k o2 (Some o) was at = (
         o,
         was,
-        ap (λ (x : Object). peer_of x.body) (sym (same_Some (killed_if (is_within_here m task k) o) o2 at))
-            ∙ elim (is_within_here m task k) as (λ b. peer_of (killed_if b o).body ≡ peer_of o.body) [ true ↦ (killed_same o.body).peer | false ↦ refl ],
+        subst (λ (x : Object). IsNoMore o.body x.body) (same_Some (kills k o) o2 at) (killed_if_stands (is_within_here m task k) o),
       )
-
-      by_object : (k j : ℕ) (o : Object) (q : Option Object) → get m k ≡ q → option_map (killed_if (is_within_here m task k)) q ≡ Some o
-          → IsTrue (is_under j o.body) → IsTrue (lists children j k)
-      by_object k j o None was at child = absurd (none-some o at)
-      by_object k j o (Some before) was at child = indexed.listed k j before was (ap (is_koid j) (sym (elim (is_within_here m task k)
-          as (λ b. above_of (killed_if b before).body ≡ above_of before.body) [ true ↦ (killed_same before.body).above | false ↦ refl ]))
-          ∙ (ap (λ (x : Object). is_under j x.body) (same_Some (killed_if (is_within_here m task k) before) o at) ∙ child))
 
   -- handles went, and what nothing keeps
   pub left_indexed : {m m2 : Map Object} (ks : List ℕ) → IsIndexed children m → Cascades ks m m2 → IsIndexed children m2
-  left_indexed {m} {m2} ks indexed cascades = record {
-    in_order = in_order ks m m2 cascades indexed.in_order;
-    listed = λ k j o at child.
-        let was : Was m k o = cascaded_was ks m m2 cascades k o at in
-        indexed.listed k j was.before was.there
-        (sym (of_body (is_under j) (λ packets reserved. refl) o.body was.before.body was.body) ∙ child);
-    paired = still_paired m m2 (λ k o at.
-        let was : Was m k o = cascaded_was ks m m2 cascades k o at in
-        (was.before, was.there, of_body peer_of (λ packets reserved. refl) o.body was.before.body was.body)) indexed.paired;
-  }
+  left_indexed {m} {m2} ks indexed cascades =
+      still_indexed m m2 (in_order ks m m2 cascades indexed.in_order)
+      (λ k o at.
+      let was : Was m k o = cascaded_was ks m m2 cascades k o at in (
+        was.before,
+        was.there,
+        record {
+          under = λ j h. sym (of_body (is_under j) (λ packets reserved. refl) o.body was.before.body was.body) ∙ h;
+          jobs = λ j h. sym (of_body (is_job_below_here j) (λ packets reserved. refl) o.body was.before.body was.body) ∙ h;
+          processes = λ j h. sym (of_body (is_process_below j) (λ packets reserved. refl) o.body was.before.body was.body) ∙ h;
+          peer = of_body peer_of (λ packets reserved. refl) o.body was.before.body was.body;
+        },
+      )) indexed
     where
       in_order : (ks : List ℕ) (m m2 : Map Object) → Cascades ks m m2 → IsTrue (is_sorted nat_cmp m) → IsTrue (is_sorted nat_cmp m2)
       in_order _ _ _ (none_left m) h = h
@@ -322,33 +371,62 @@ module _ {children : Children} where
 
 module _ {children children2 : Children} where
   -- one object more, which is listed under its job
-  pub inserted_indexed : {m n : Map Object} (next : ℕ) (o : Object) → IsIndexed children m
-      → StayListed children children2 → IfSome (above_of o.body) (λ j. IsTrue (lists children2 j next))
-      → IsPairedWith m next o.body → n ≡ insert_entry nat_cmp m next o → IsIndexed children2 n
-  inserted_indexed {m} {n} next o indexed more added ends is = rw (is, inserted m next o) (record {
+  pub inserted_indexed : {m n : Map Object} (next : ℕ) (o : Object) → IsIndexed children m → OthersStayListed next children children2
+      → ListsChild children2 next o.body → IsPairedWith m next o.body → n ≡ insert_entry nat_cmp m next o → IsIndexed children2 n
+  inserted_indexed {m} {n} next o indexed others added ends is = rw (is, inserted m next o) (record {
     in_order = sorted_put m next o indexed.in_order;
-    listed = λ k j q at child. by_key k j q (cases_Bool (next == k)) (sym (get-put m next o k) ∙ at) child;
+    listed = λ k q at. by_key k q (cases_Bool (next == k)) (sym (get-put m next o k) ∙ at);
     paired = put_paired m next o ends indexed.paired;
   })
     where
-      own : (j : ℕ) (q : Option ℕ) → IfSome q (λ i. IsTrue (lists children2 i next)) → IsTrue (is_koid j q) → IsTrue (lists children2 j next)
-      own j None h child = absurd (false≢true child)
-      own j (Some i) h child = ap (λ x. lists children2 x next) (sym (eqb-true i j child)) ∙ h
+      by_key : (k : ℕ) (q : Object) → IsTrue (next == k) ⊎ ((next == k) ≡ false) → (if next == k then Some o else get m k) ≡ Some q
+          → ListsChild children2 k q.body
+      by_key k q (inl here) at =
+          subst (λ (i : ℕ). ListsChild children2 i q.body) (eqb-true next k here)
+          (subst (λ (x : Object). ListsChild children2 next x.body) (same_Some o q (rw here at at)) added)
+      by_key k q (inr apart) at = others k q.body apart (indexed.listed k q (rw apart at at))
 
-      by_key : (k j : ℕ) (q : Object) → IsTrue (next == k) ⊎ ((next == k) ≡ false) → (if next == k then Some o else get m k) ≡ Some q
-          → IsTrue (is_under j q.body) → IsTrue (lists children2 j k)
-      by_key k j q (inl here) at child =
-          ap (lists children2 j) (sym (eqb-true next k here))
-          ∙ own j (above_of o.body) added (ap (λ (x : Object). is_under j x.body) (same_Some o q (rw here at at)) ∙ child)
-      by_key k j q (inr apart) at child = more j k (indexed.listed k j q (rw apart at at) child)
+  -- that was refused
+  pub refused_indexed : {m n : Map Object} (next : ℕ) → IsIndexed children m → ((k : ℕ) → IsTrue (has_key m k) → k < next)
+      → OthersStayListed next children children2 → n ≡ m → IsIndexed children2 n
+  refused_indexed {m} next indexed below others is = rw is (record {
+    in_order = indexed.in_order;
+    listed = λ k o at. others k o.body (apart k (below k (rw at refl))) (indexed.listed k o at);
+    paired = indexed.paired;
+  })
+    where
+      apart : (k : ℕ) → k < next → (next == k) ≡ false
+      apart k lower = grind (arith, nat_tests, lower)
 
   -- one object less, with what is listed for it
   pub removed_indexed : {m n : Map Object} (k : ℕ) → IsIndexed children m → OthersStayListed k children children2 → n ≡ without m k → IsIndexed children2 n
   removed_indexed {m} {n} k indexed others is = rw is (record {
     in_order = sorted_without m k indexed.in_order;
-    listed = λ i j o at child. let left = found_left m k i o at in others j i left.0 (indexed.listed i j o left.1 child);
-    paired = still_paired m (without m k) (λ i o at. (o, (found_left m k i o at).1, refl)) indexed.paired;
+    listed = λ i o at. let left = found_left m k i o at in others i o.body left.0 (indexed.listed i o left.1);
+    paired = still_paired m (without m k) (λ i o at. (o, (found_left m k i o at).1, same_stands o.body)) indexed.paired;
   })
+
+  -- what is dead isn't listed as living any more
+  pub buried_indexed : {m : Map Object} (k : ℕ) (o : Object) → IsIndexed children m → OthersStayListed k children children2 → StayListed children children2
+      → get m k ≡ Some o → keeper_of o.body ≡ None → IsIndexed children2 m
+  buried_indexed {m} k o indexed others all there dead = record {
+    in_order = indexed.in_order;
+    listed = λ i q at. by_key i q at (cases_Bool (k == i));
+    paired = indexed.paired;
+  }
+    where
+      no_child : (j : ℕ) → IsTrue (is_child j o.body) → ⊥
+      no_child j child = false≢true (rw dead at child)
+
+      by_key : (i : ℕ) (q : Object) → get m i ≡ Some q → IsTrue (k == i) ⊎ ((k == i) ≡ false) → ListsChild children2 i q.body
+      by_key i q at (inr apart) = others i q.body apart (indexed.listed i q at)
+      by_key i q at (inl here) =
+          let same : o ≡ q = same_Some o q (sym there ∙ (ap (get m) (eqb-true k i here) ∙ at)) in
+          subst (λ (x : Object). ListsChild children2 i x.body) same (record {
+            under = λ j h. all j i ((indexed.listed i q at).under j (rw (← same) h));
+            jobs = λ j h. absurd (no_child j (job_is_child j o.body h));
+            processes = λ j h. absurd (no_child j (process_is_child j o.body h));
+          })
 
   -- and the waits there end
   pub gone_indexed : {m n : Map Object} (k : ℕ) (o : Object) → IsIndexed children m → OthersStayListed k children children2 → n ≡ ending_waits k o (without m k)
@@ -362,10 +440,12 @@ pub pair_indexed : {children : Children} {m n n2 : Map Object} (p : Pair) (handl
     → o ≡ end_of p (next + 1) handles → o2 ≡ end_of p next handles → n ≡ insert_entry nat_cmp m next o → n2 ≡ insert_entry nat_cmp n (next + 1) o2
     → IsIndexed children n2
 pair_indexed {children} {m} p handles next o o2 indexed below peers first second into into2 =
-    inserted_indexed (next + 1) o2 (inserted_indexed next o indexed (λ j k h. h) (rw first (no_child _ p (next + 1)))
-    (rw first (first_paired m next peers p below)) into) (λ j k h. h)
-    (rw second (no_child _ p next)) (rw (into, inserted m next o, first, second) (second_paired m next peers p handles)) into2
+    inserted_indexed (next + 1) o2 (inserted_indexed next o indexed (λ k b apart h. h) (rw first (no_child next p (next + 1)))
+    (rw first (first_paired m next peers p below)) into) (λ k b apart h. h)
+    (rw second (no_child (next + 1) p next)) (rw (into, inserted m next o, first, second) (second_paired m next peers p handles)) into2
   where
-    no_child : (P : ℕ → Type 0) (p : Pair) (peer : ℕ) → IfSome (above_of (end_to p peer)) P
-    no_child P pair.Channel peer = tt
-    no_child P pair.Eventpair peer = tt
+    no_child : (k : ℕ) (p : Pair) (peer : ℕ) → ListsChild children k (end_to p peer)
+    no_child k pair.Channel peer =
+        record { under = λ j h. absurd (false≢true h); jobs = λ j h. absurd (false≢true h); processes = λ j h. absurd (false≢true h) }
+    no_child k pair.Eventpair peer =
+        record { under = λ j h. absurd (false≢true h); jobs = λ j h. absurd (false≢true h); processes = λ j h. absurd (false≢true h) }

@@ -1,6 +1,6 @@
 -- Once no handle is left to go and nothing is left that nothing keeps, the largest held set is left.
 use Rattle.zl_objects.proofs.Common.{Agrees, AreKeptBut, AreSameButWaits, Body, Bool, Cascades, ChannelEnd, Entry, IsExact, IsTrue, Koids, LeavesLargest, List}
-use Rattle.zl_objects.proofs.Common.{Map, Message, None, Object, Objects, Option, Process, Releases, Settles, Some, World, and_from, and_parts, ap, arith}
+use Rattle.zl_objects.proofs.Common.{Map, Message, None, Object, Objects, Option, Releases, Settles, Some, World, and_from, and_parts, ap, arith}
 use Rattle.zl_objects.proofs.Common.{body_value, cases_Bool, cond, count_by, eq-eqb, eqb-true, false, false≢true, flat_map-cons, get, get-without, goes}
 use Rattle.zl_objects.proofs.Common.{has_key, has_key-update, has_living_child_here, held_once_less, if◌then◌else◌, in_queue, in_table, inl, inr, is_above}
 use Rattle.zl_objects.proofs.Common.{is_alive, is_child, is_held, is_in_job, is_job_at, is_job_here, is_kept, is_koid, is_process, is_process_of, is_some}

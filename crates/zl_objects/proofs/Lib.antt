@@ -2,6 +2,7 @@ pub mod Common
 pub mod Bare
 pub mod Bodies
 pub mod Budget
+pub mod Buried
 pub mod Calm
 pub mod CalmChanges
 pub mod CalmEnds

@@ -1,6 +1,6 @@
 -- What may be due at an object, a registered wait or a blocked process, and which objects are marked to be looked at.
-use Rattle.std.specs.Prelude.{ℕ, ◌≡◌, ◌<◌, ◌⊎◌, Bool, true, false, not, ◌&&◌, ◌||◌, ◌==◌, List, [], ◌∷◌, ◌++◌, Option, Some, None, IsTrue}
-use Rattle.std.specs.List.{All, filter, list_any}
+use Rattle.std.specs.Prelude.{ℕ, ◌≡◌, ◌<◌, Bool, true, false, not, ◌||◌, ◌==◌, List, Option, Some, None, IsTrue}
+use Rattle.std.specs.List.{All, list_any}
 use Rattle.zl_rights.specs.Map.{Map, get, update}
 use Rattle.zl_rights.specs.Numbers.{meets}
 use Rattle.zl_rights.specs.Signals.{is_empty}

@@ -2,8 +2,7 @@
 
 ghost use Rattle.std.specs.Prelude.{◌≡◌, OnErr, OnOk, slice_get};
 ghost use Rattle.zl_rights.specs.Map.{get};
-ghost use Rattle.zl_objects.specs.Objects.{is_child, job_in, keeper_of};
-ghost use Rattle.zl_objects.specs.Index.{above_of};
+ghost use Rattle.zl_objects.specs.Objects.{job_in, keeper_of};
 ghost use Rattle.zl_objects.specs.Jobs.{action_here, as_job, children, depth_of, descendants, has_actions, is_dead_here, is_job_below_here, is_process_below, is_within_here, job_at, lives_body, lives_in, new_in, parent_held, policy_answer, setting_policy, with_policy_set};
 
 use crate::children::{has_job_below, has_process_below};
@@ -46,27 +45,6 @@ impl Body {
                 }
             }
             Body::Process { job, life } => { if life.is_alive() { Some(*job) } else { None } }
-            _ => None,
-        }
-    }
-
-    /// Whether it is a living child of the job.
-    pub(crate) fn is_child(&self, job: Koid) -> bool
-        ensures { result ≡ is_child job self.now }
-    {
-        match self.keeper() {
-            Some(keeper) => keeper == job,
-            None => false,
-        }
-    }
-
-    /// The job directly above a job or a process, if it is one.
-    pub(crate) fn above(&self) -> Option<Koid>
-        ensures { result ≡ above_of self.now }
-    {
-        match self {
-            Body::Job(job) => Some(job.parent()),
-            Body::Process { job, .. } => Some(*job),
             _ => None,
         }
     }

@@ -12,6 +12,7 @@ ghost use Rattle.zl_objects.specs.Seen.{LeavesLargest};
 ghost use Rattle.zl_objects.specs.Waits.{HavePlaces, LeavesWaits};
 
 use crate::below::{TaskList, list_task};
+use crate::children::{bury, bury_each};
 use crate::killing::kill_task;
 use crate::object::Object;
 use crate::objects::Objects;
@@ -106,6 +107,8 @@ impl Objects {
             list.koids.as_slice(),
             list.whole,
         );
+        // What a list that isn't whole lacks stays among the living until it goes. That costs time.
+        bury_each(&self.by_koid, &mut self.children, list.koids.as_slice());
         sweep_task(
             &mut self.by_koid,
             &mut self.children,
@@ -139,6 +142,7 @@ impl Objects {
         };
         let keeper = object.body.keeper();
         object.stop();
+        bury(&self.by_koid, &mut self.children, pid);
         mark_watched(&self.by_koid, &mut self.marks, Some(pid));
         mark_watched(&self.by_koid, &mut self.marks, keeper);
     }

@@ -137,7 +137,7 @@ impl Objects {
             .make_room_if(matches!(body, Body::Process { .. }), count)?;
         let koid = self.next_koid;
         let parent = body.parent();
-        self.children.add(body.above(), koid)?;
+        self.children.add(&body, koid)?;
         let object = Object {
             body,
             signals: SignalState::new(self.alloc()),

@@ -8,13 +8,16 @@ use Rattle.zl_objects.proofs.Tasks.{killed_kept}
 use Rattle.zl_objects.proofs.Unlisted.{left_seen}
 use Rattle.zl_objects.proofs.objects.Objects.kill.Goals as goal
 
+pub bury_each-requires : goal.bury_each-requires
+bury_each-requires c = killed_indexed c.args.task c.self.invariant.indexed c.kill_task.ensures.killed
+
 pub sweep_task-requires : goal.sweep_task-requires
 sweep_task-requires c =
     let kept : IsKept None c.kill_task.new.by_koid.entries c.self.inside.next_koid c.self.inside.dying.items (vec_capacity c.self.inside.dying)
     c.self.inside.waits.entries.items =
     killed_kept _ _ _ _ c.args.task _ c.self.invariant.kept c.kill_task.ensures.killed in
     record {
-      indexed = killed_indexed c.args.task c.self.invariant.indexed c.kill_task.ensures.killed;
+      indexed = c.bury_each.ensures.indexed;
       registered = record { listed = kept.listed; places = kept.whole.places };
       below = kept.whole.below;
       none = kept.whole.none;
@@ -31,9 +34,9 @@ invariant_of-self c = record {
 
 pub returns-clause-releases : goal.returns-clause-releases
 returns-clause-releases c = rw (← c.self.view_is) (λ before. released [] _ _ _ _ _ _ _ _ _ [] (all_swept c.self.inside.by_koid.entries
-    c.sweep_task.new.by_koid.entries c.args.task c.args.list.now.whole c.as_slice-2.result.now
-    (λ all. rw (c.as_slice-2.ensures.value) ((rw (← c.self.view_is) at c.requires) all)) before
-    (subst (λ (m : Map Object). LetsGo [] m (looked_at c.args.list.now.whole c.as_slice-2.result.now m) c.sweep_task.new.by_koid.entries [])
+    c.sweep_task.new.by_koid.entries c.args.task c.args.list.now.whole c.as_slice-3.result.now
+    (λ all. rw (c.as_slice-3.ensures.value) ((rw (← c.self.view_is) at c.requires) all)) before
+    (subst (λ (m : Map Object). LetsGo [] m (looked_at c.args.list.now.whole c.as_slice-3.result.now m) c.sweep_task.new.by_koid.entries [])
     c.kill_task.ensures.killed c.sweep_task.ensures.goes)) refl refl)
 
 pub returns-clause-largest : goal.returns-clause-largest

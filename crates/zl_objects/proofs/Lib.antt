@@ -19,6 +19,7 @@ pub mod Kept
 pub mod Law
 pub mod Listed
 pub mod Lists
+pub mod Parts
 pub mod Peers
 pub mod Places
 pub mod Popped

@@ -15,3 +15,4 @@ pub mod Sleepers
 pub mod Index
 pub mod PortWaits
 pub mod Due
+pub mod Gapped

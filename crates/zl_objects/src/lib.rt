@@ -15,6 +15,7 @@ mod awaited;
 mod below;
 mod children;
 mod due;
+mod gapped;
 mod jobs;
 mod killing;
 mod listing;

@@ -2,7 +2,7 @@
 
 ghost use Rattle.std.specs.Prelude.{[], false, take, IfSome, ◌≡◌, ◌+◌, ◌++◌, ◌∷◌, ◌==◌, ◌<◌, ◌≤◌, ◌^◌, not, map, option_map, slice_get, IsTrue, OnErr, OnSome, OnOk};
 ghost use Rattle.std.specs.FinMap.Entries.{is_sorted};
-ghost use Rattle.std.specs.List.{filter, find, list_any, position, All};
+ghost use Rattle.std.specs.List.{filter, find, list_any, All};
 ghost use Rattle.std.specs.Ordering.{nat_cmp};
 ghost use Rattle.zl_rights.specs.Signals.{is_empty};
 ghost use Rattle.zl_signals.specs.Waits.{without_first};
@@ -13,6 +13,7 @@ ghost use Rattle.zl_objects.specs.Listed.{entry_of, is_there, may_register_here,
 ghost use Rattle.zl_objects.specs.PortWaits.{is_entry_to, AreFound};
 
 use crate::children::Children;
+use crate::gapped::Gapped;
 use crate::object::Object;
 use crate::objects::Objects;
 use crate::port_waits::PortWaits;
@@ -20,13 +21,13 @@ use crate::signals::signals_at;
 use crate::wait::{Listed, Wait};
 use bitflags::Flags;
 use std::alloc::{AllocError, Global};
-use std::collections::{BTreeMap, VecDeque};
+use std::collections::BTreeMap;
 use zl_rights::Koid;
 
 /// All registered waits, the earliest first, and how many ever were registered.
 #[derive(Drop)]
 pub(crate) struct WaitList {
-    pub entries: VecDeque<Listed>,
+    pub entries: Gapped,
     // The waits of each port.
     pub by_port: PortWaits,
     pub made: u64,
@@ -42,7 +43,7 @@ impl WaitList {
         ensures made { result.made ≡ 0 }
     {
         WaitList {
-            entries: VecDeque::new(alloc),
+            entries: Gapped::new(alloc),
             by_port: PortWaits::new(alloc),
             made: 0,
         }
@@ -58,7 +59,7 @@ impl WaitList {
         ensures same_made { OnErr result (self.new.made ≡ self.old.made) }
     {
         let order = self.made;
-        self.entries.reserve(1)?;
+        self.entries.reserve_one()?;
         self.by_port.add(wait.port, order)?;
         self.made = order + 1;
         self.entries.push_back_reserved(Listed { order, wait });
@@ -102,16 +103,7 @@ impl WaitList {
         ensures entry { result ≡ slice_get self.now.entries.items n }
         ensures next { OnSome result (n + 1 < 2 ^ 64) }
     {
-        Some(*self.entries.get(n)?)
-    }
-
-    /// Where the wait stands before which so many were registered.
-    fn place_of(&self, order: u64) -> Option<usize>
-        ensures { result ≡ position (λ x. x.order == order) self.now.entries.items }
-    {
-        self.entries
-            .binary_search_by_key(&order, |listed| listed.order)
-            .ok()
+        self.entries.get(n)
     }
 }
 
@@ -155,7 +147,7 @@ pub fn unlist(waits: &mut WaitList, order: u64) -> Option<Wait>
         ≡ filter (λ x. not (x.order == order)) waits.old.entries.items }
     ensures made { waits.new.made ≡ waits.old.made }
 {
-    let place = waits.place_of(order)?;
+    let place = waits.entries.place_of(order)?;
     let listed = waits.entries.remove(place)?;
     waits.by_port.remove(listed.wait.port, order);
     Some(listed.wait)

@@ -1,20 +1,22 @@
-use Rattle.zl_objects.proofs.Common.{All-filter, Listed, Some, ap, filter, find, not, option_map, sym, ◌<◌, ◌==◌, ◌∙◌, ◌≡◌}
-use Rattle.zl_signals.proofs.Takes.{all_stay, first_found, none_found, others_stay}
+use Rattle.zl_objects.proofs.Common.{All-filter, Listed, Some, ap, filter, find, not, option_map, sym, without_first, ◌<◌, ◌==◌, ◌∙◌, ◌≡◌}
+use Rattle.zl_signals.proofs.Takes.{all_stay, none_found}
+use Rattle.zl_objects.proofs.Parts.{first_taken}
 use Rattle.zl_objects.proofs.PortWaits.{removed_found}
 use Rattle.zl_objects.proofs.Rising.{first_is_only, rises_left}
 use Rattle.zl_objects.proofs.listing.unlist.Goals as goal
 
+taken : (c : goal.After-remove-2)
+    → (c.remove.result ≡ find (λ x. x.order == c.args.order) c.args.waits.now.entries.items)
+    × (c.remove.new.self.items ≡ without_first (λ x. x.order == c.args.order) c.args.waits.now.entries.items)
+taken c =
+    first_taken (λ x. x.order == c.args.order) c.args.waits.now.entries.items c.remove.new.self.items c.in_ok-place.place c.remove.result
+    (sym c.place_of.ensures ∙ c.in_ok-place.was {u = tt}) c.remove.ensures.some c.remove.ensures.taken
+
 left : (c : goal.After-remove-2) → c.remove.new.self.items ≡ filter (λ x. not (x.order == c.args.order)) c.args.waits.now.entries.items
-left c =
-    others_stay (λ x. x.order == c.args.order) c.args.waits.now.entries.items _ _ _ (sym c.place_of.ensures ∙ c.in_ok-place.was {u = tt})
-    c.args.waits.now.entries.ok.0 c.remove.ensures.variant _ c.remove.ensures.items
-    ∙ first_is_only c.args.order c.args.waits.now.entries.items c.args.waits.now.rising
+left c = (taken c).1 ∙ first_is_only c.args.order c.args.waits.now.entries.items c.args.waits.now.rising
 
 found : (c : goal.After-remove-2) → Some c.in_ok-listed.listed ≡ find (λ x. x.order == c.args.order) c.args.waits.now.entries.items
-found c =
-    sym (c.in_ok-listed.was {u = tt})
-    ∙ first_found (λ x. x.order == c.args.order) c.args.waits.now.entries.items _ _ _ (sym c.place_of.ensures ∙ c.in_ok-place.was {u = tt})
-    c.args.waits.now.entries.ok.0 c.remove.ensures.variant c.remove.ensures.value
+found c = sym (c.in_ok-listed.was {u = tt}) ∙ (taken c).0
 
 pub invariant_of-waits-2 : goal.invariant_of-waits-2
 invariant_of-waits-2 c =

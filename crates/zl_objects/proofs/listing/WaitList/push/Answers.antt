@@ -7,7 +7,7 @@ pub invariant_of-self-2 : goal.invariant_of-self-2
 invariant_of-self-2 c =
     let made = c.args.self.now.made in
     let xs = c.args.self.now.entries.items in
-    rw (c.push_back_reserved.ensures.items, c.reserve.ensures.items) record {
+    rw (c.push_back_reserved.ensures, c.reserve_one.ensures.items) record {
       rising = rises_last made c.args.wait xs c.args.self.now.rising c.args.self.now.below;
       below = All-push (λ x. x.order < made + 1) xs (entry_of made c.args.wait)
           (All-weaker (λ x. x.order < made) (λ x. x.order < made + 1) (λ x less. omega (arith, less)) xs c.args.self.now.below) (omega arith);

@@ -1,0 +1,15 @@
+use Rattle.zl_objects.proofs.Common.{◌++◌, ◌+◌, ◌-◌, ◌≡◌, ◌≤◌}
+use Rattle.std.specs.VecDeque.{deque_capacity, deque_len}
+use Rattle.zl_objects.proofs.gapped.move_back.Given as goal
+
+abbrev pub invariant-loop-before : goal.invariant-loop-before
+invariant-loop-before l = record {
+  low : l.left ≤ deque_len l.before;
+  items : l.before.items ++ l.after.items ≡ l.initial.before.items ++ l.initial.after.items;
+  all : deque_len l.before + deque_len l.after ≡ deque_len l.initial.before + deque_len l.initial.after;
+  front : deque_capacity l.before ≡ deque_capacity l.initial.before;
+  behind : deque_capacity l.after ≡ deque_capacity l.initial.after;
+}
+
+abbrev pub decreases-loop-before : goal.decreases-loop-before
+decreases-loop-before l = deque_len l.before - l.left

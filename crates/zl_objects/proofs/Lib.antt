@@ -14,6 +14,7 @@ pub mod Earliest
 pub mod Ending
 pub mod Found
 pub mod Gone
+pub mod Grouping
 pub mod Index
 pub mod Kept
 pub mod Law

@@ -3,6 +3,7 @@ use Rattle.zl_objects.proofs.Common.{All, All-append, All-cons, All-drop, All-ta
 use Rattle.zl_objects.proofs.Common.{Contains-append_left, Contains-append_right, IsAtRest, IsCalm, IsFirstDue, IsListed, IsNonDecreasingBy, IsPlace, IsPut}
 use Rattle.zl_objects.proofs.Common.{IsTrue, IsUnlisted, List, ListsLast, Map, NoneDueAt, Object, Objects, Sleeper, Some, TakesDue, ap, arith, cases_Bool, drop}
 use Rattle.zl_objects.proofs.Common.{eq-eqb, eqb-true, false, false≢true, filter, filter-append, get, get_or, if◌then◌else◌, inl, inr, insert, is_due, is_for}
+use Rattle.zl_objects.proofs.Common.{has_packet, is_given, signals_at}
 use Rattle.zl_objects.proofs.Common.{koid_of, length, list_any, listed_for, ltb-false, ltb-true, map-append, refl, remove, slept, subst, suc, sym, take, true}
 use Rattle.zl_objects.proofs.Common.{update, zero, ℕ, ◌++◌, ◌+◌, ◌<◌, ◌==◌, ◌∙◌, ◌∷◌, ◌≡◌, ◌≤◌, ◌⊎◌, []}
 use Rattle.std.proofs.lemmas.List.{append-nil, length-append, get_or_append_left, get_or-append-add, get_or-take, get_or_default}
@@ -49,6 +50,26 @@ module _ (test : Sleeper → Bool) (k : ℕ) (list : List Sleeper) where
       | inr more ↦ absurd (let high : place ≤ i = ltb-false i place more in omega (arith, here, ends.behind i d (omega (arith, high, past)) inside))
     ]
 
+-- the one at the place has what it waits for
+pub first_due : (m : Map Object) (k : ℕ) (list : List Sleeper) (place end : ℕ) → HasLooked (λ s. is_due m s.awaited) k list place
+    → IsPlace (λ j. j ≤ k) (λ j. k < j) list end → place < end → (x : Sleeper) → x ≡ get_or list place x
+    → IsTrue (is_given (signals_at m k) (has_packet (get m k)) x.awaited) → IsFirstDue m list place
+first_due m k list place end looked ends less x was given = record {
+  inside = inside;
+  due = λ d. subst (λ (y : Sleeper). IsTrue (is_due m y.awaited)) (was ∙ get_or_default list place x d inside) its;
+  first = λ i d before here. looked.passed i d before (here ∙ at_koid d);
+}
+  where
+    inside : place < length list
+    inside = omega (arith, less, ends.within)
+
+    at_koid : (d : Sleeper) → koid_of (get_or list place d).awaited ≡ k
+    at_koid d = omega (arith, looked.above place d (omega arith) inside, ends.before place d less)
+
+    its : IsTrue (is_due m x.awaited)
+    its = subst (λ (j : ℕ). IsTrue (is_given (signals_at m j) (has_packet (get m j)) x.awaited))
+        (sym (ap (λ (y : Sleeper). koid_of y.awaited) was ∙ at_koid x)) given
+
 pub none_listed : (pid port : ℕ) (list : List Sleeper)
     → ((i : ℕ) (d : Sleeper) → i < length list → koid_of (get_or list i d).awaited ≡ port → ((get_or list i d).pid == pid) ≡ false)
     → list_any (λ q. q == pid) (listed_for list port) ≡ false
@@ -68,6 +89,11 @@ module _ (s : Sleeper) (list : List Sleeper) (place : ℕ) (behind : IsPlace (λ
   insert_in_order up true list2 is = rw is (IsNonDecreasingBy-insert (λ (x : Sleeper). koid_of x.awaited) list place s up behind.within
       (λ k d low. behind.before k d low) (λ k d high inside. let above = behind.behind k d high inside in omega (arith, above)))
   insert_in_order up false list2 is = rw is up
+
+  pub insert_all : (P : Sleeper → Type 0) → All P list → P s → (b : Bool) (list2 : List Sleeper) → list2 ≡ (if b then insert list place s else list) → All P list2
+  insert_all P all one true list2 is = rw is (All-append P (take place list) (s ∷ drop place list) (All-take P place list all)
+      (All-cons P s (drop place list) one (All-drop P place list all)))
+  insert_all P all one false list2 is = rw is all
 
   pub insert_listed : (list2 : List Sleeper) → list2 ≡ insert list place s → IsUnlisted s.pid s.awaited list → IsListed s list list2
   insert_listed list2 is unlisted = record {

@@ -16,3 +16,4 @@ pub mod Index
 pub mod PortWaits
 pub mod Due
 pub mod Gapped
+pub mod Groups

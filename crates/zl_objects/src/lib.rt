@@ -16,6 +16,7 @@ mod below;
 mod children;
 mod due;
 mod gapped;
+mod groups;
 mod jobs;
 mod killing;
 mod listing;

@@ -6,11 +6,13 @@ ghost use Rattle.std.specs.List.Sorted.{IsNonDecreasingBy};
 ghost use Rattle.zl_rights.specs.Map.{get};
 ghost use Rattle.zl_objects.specs.Awaited.{koid_of};
 ghost use Rattle.zl_objects.specs.Calm.{has_packet, is_due, is_given};
+ghost use Rattle.zl_objects.specs.Groups.{Counts};
 ghost use Rattle.zl_objects.specs.Sleepers.{IsFirstDue, IsPlace, IsPut, IsUnlisted, NoneDueAt};
 ghost use Rattle.zl_objects.specs.Index.{IsIndexed};
 
 use crate::awaited::{Awaited, Sleeper};
 use crate::children::Children;
+use crate::groups::Groups;
 use crate::object::Object;
 use crate::signals::signals_at;
 use bitflags::Flags;
@@ -25,7 +27,10 @@ use zl_rights::Koid;
 pub(crate) struct Sleepers {
     pub list: Vec<Sleeper>,
     pub crowded: bool,
+    // What those at each koid wait for, taken together.
+    groups: Groups,
     ghost in_order: { IsNonDecreasingBy (λ s. koid_of s.awaited) list.items },
+    ghost counted: { All (λ s. Counts groups.crowded groups.list.items s.awaited) list.items },
 }
 
 impl Sleepers {
@@ -40,6 +45,7 @@ impl Sleepers {
         Ok(Sleepers {
             list: Vec::with_capacity(alloc, Sleepers::ROOM)?,
             crowded: false,
+            groups: Groups::new(alloc, Sleepers::ROOM)?,
         })
     }
 
@@ -50,6 +56,7 @@ impl Sleepers {
     {
         if wanted {
             self.list.reserve(count)?;
+            self.groups.make_room(self.list.capacity())?;
         }
         Ok(())
     }
@@ -65,6 +72,7 @@ impl Sleepers {
             return;
         }
         let place = self.place_behind(sleeper.awaited.koid());
+        self.groups.join(&sleeper.awaited);
         let Ok(()) = self.list.insert(place, sleeper) else {
             unreachable!()
         };
@@ -77,7 +85,12 @@ impl Sleepers {
         ensures list { self.new.list.items ≡ remove self.old.list.items place }
         ensures crowded { self.new.crowded ≡ self.old.crowded }
     {
-        self.list.remove(place)
+        let sleeper = self.list.remove(place);
+        let koid = sleeper.awaited.koid();
+        if self.place_of(koid) == self.place_behind(koid) {
+            self.groups.remove(koid);
+        }
+        sleeper
     }
 
     /// Nobody is listed.
@@ -86,6 +99,7 @@ impl Sleepers {
         ensures crowded { self.new.crowded ≡ self.old.crowded }
     {
         self.list.clear();
+        self.groups.clear();
     }
 
     /// Where the first stands that waits at this koid or a higher one.
@@ -131,6 +145,9 @@ impl Sleepers {
     {
         let signals = u64::from(signals_at(by_koid, children, koid).bits());
         let packets = has_packet(by_koid, koid);
+        if !self.groups.may_wake(koid, signals, packets) {
+            return None;
+        }
         for place in self.place_of(koid)..self.place_behind(koid) {
             if is_given(signals, packets, &self.list[place].awaited) {
                 return Some(place);

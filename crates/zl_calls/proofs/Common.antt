@@ -51,7 +51,7 @@ pub use Rattle.zl_calls.specs.Consistent.{AreNamed, IsConsistent, IsNamed}
 pub use Rattle.zl_calls.specs.FieldFaults.{fields_fault, last_fault}
 pub use Rattle.zl_calls.specs.Gives.{Gives, IsBare, allowed, if_default, process_given, rights_if}
 pub use Rattle.zl_calls.specs.Killing.{AreClosed, AreClosedBut, IsClosed, StandsBefore, StayBlocked, ended_among}
-pub use Rattle.zl_calls.specs.Leaving.{HasBegun, NoneUnstarted, left_beside, left_state}
+pub use Rattle.zl_calls.specs.Leaving.{HasBegun, HaveBegunBut, is_unstarted, left_beside, left_state}
 pub use Rattle.zl_calls.specs.Makes.{IsCauseOf, IsReached, Makes, koid_fault, making_pair, seen}
 pub use Rattle.zl_calls.specs.Making.{AreSound, IsMaking, IsUnwatched, is_killed}
 pub use Rattle.zl_calls.specs.Policed.{EndsBy, IsDenied, Policed, on_fault_by, verdict_by, verdict_in, verdict_on}

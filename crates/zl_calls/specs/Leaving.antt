@@ -1,9 +1,9 @@
 -- What becomes of processes that were never started, where their objects have gone. No public clause cites this module.
-use Rattle.std.specs.Prelude.{ℕ, ◌≡◌, Bool, false, List, take, if◌then◌else◌}
-use Rattle.std.specs.List.{All}
+use Rattle.std.specs.Prelude.{ℕ, ◌≡◌, Bool, false, List, Option, Some, None, slice_get, if◌then◌else◌}
 use Rattle.zl_code.specs.Starting.{is_created}
 use Rattle.zl_calls.specs.World.{state_value}
 use Rattle.zl_rights.specs.Map.{Map, has_key}
+use Rattle.zl_objects.specs.Below.{is_one_of}
 use Rattle.zl_objects.specs.declared.object.Object.{Object}
 use Rattle.zl_calls.specs.declared.process.Process.{Process}
 use Rattle.zl_calls.specs.declared.process.State.{State}
@@ -22,6 +22,11 @@ left_beside objects p = record p { state = left_state (has_key objects p.pid) p.
 abbrev pub HasBegun : Process → Type 0
 HasBegun p = is_created (state_value p.state) ≡ false
 
--- no process before the place is unstarted
-abbrev pub NoneUnstarted : ℕ → List Process → Type 0
-NoneUnstarted n ps = All HasBegun (take n ps)
+-- so it is of each process but perhaps those at these places
+abbrev pub HaveBegunBut : List ℕ → List Process → Type 0
+HaveBegunBut places ps = (n : ℕ) (p : Process) → slice_get ps n ≡ Some p → is_one_of n places ≡ false → HasBegun p
+
+-- the process that was looked up is unstarted
+abbrev pub is_unstarted : Option Process → Bool
+is_unstarted None = false
+is_unstarted (Some p) = is_created (state_value p.state)

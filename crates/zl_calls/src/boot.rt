@@ -1,7 +1,7 @@
 //! The processes and objects that the statements of a boot make.
 
 ghost use Rattle.std.specs.Prelude.{ℕ, ◌+◌, ◌≡◌, ◌≢◌, ◌≤◌, ◌<◌, nat_lt, false, [], ◌∷◌, length, is_some, map, None, Some, slice_get, IfOk, OnOk, IfErr, IsTrue};
-ghost use Rattle.std.specs.List.{AllByRecursion, list_all};
+ghost use Rattle.std.specs.List.{All, AllByRecursion, list_all};
 ghost use Rattle.std.specs.Option.{option_map};
 ghost use Rattle.std.specs.Result.{result_err};
 ghost use Rattle.zl_rights.specs.Numbers.{within, default_rights_of};
@@ -11,19 +11,18 @@ ghost use Rattle.zl_code.specs.Headline.{word_of};
 ghost use Rattle.zl_code.specs.Jobs.{is_only_start};
 ghost use Rattle.zl_code.specs.Limits.{most_word};
 ghost use Rattle.zl_code.specs.OwnBoot.{own_boot};
-ghost use Rattle.zl_calls.specs.Leaving.{left_beside};
+ghost use Rattle.zl_calls.specs.Leaving.{HaveBegunBut};
 ghost use Rattle.zl_calls.specs.Consistent.{IsConsistent};
 ghost use Rattle.zl_objects.specs.Objects.{is_end_body, kind_here, root_alone, with_new};
 ghost use Rattle.zl_objects.specs.Ports.{reserved_of};
 ghost use Rattle.zl_interp.specs.Program.{program_value};
 ghost use Rattle.zl_calls.specs.Making.{IsMaking, IsUnwatched};
-ghost use Rattle.zl_calls.specs.Makes.{Makes, seen, own_seen, IsCauseOf, IsReached, koid_fault, making_pair};
+ghost use Rattle.zl_calls.specs.Makes.{Makes, seen, own_seen, IsCauseOf, IsFresh, IsReached, koid_fault, making_pair};
 ghost use Rattle.zl_calls.specs.Gives.{allowed, rights_if, IsBare, Gives};
 
 use crate::calls::job::has_children;
 use crate::calls::process::{is_declared, lacks_need};
 use crate::process::{Process, State};
-use crate::step::leaving::leave_from;
 use bitflags::Flags;
 use std::alloc::{AllocError, Global};
 use zl_code::{Boot, BootCause, BootFault, Grant, Grants, Image, Start, Statement};
@@ -52,6 +51,7 @@ pub fn booted(alloc: Global, library: &Library, boot: &Boot) -> Result<Made, Boo
         (λ made. own_seen made ≡ own_boot library.now boot.now.statements.items) }
     ensures consistent { IfOk result (λ made. IsConsistent made.processes.items made.objects) }
     ensures unwatched { IfOk result (λ made. IsUnwatched made.objects) }
+    ensures started { IfOk result (λ made. HaveBegunBut [] made.processes.items) }
     ensures words { OnOk result
         (AllByRecursion (λ s. word_of s ≤ most_word) boot.now.statements.items) }
     ensures limit { OnOk result (boot.now.limit ≤ MOST_ITEMS) }
@@ -391,12 +391,12 @@ impl Made {
         Ok(())
     }
 
-    /// What isn't held is gone.
+    /// What isn't held is gone. No process goes with its object, as all are ready.
     fn settle(&mut self)
-        requires { IsMaking self.old.processes.items [] self.old.objects }
+        requires making { IsMaking self.old.processes.items [] self.old.objects }
+        requires fresh { All IsFresh self.old.processes.items }
         ensures settles { Settles (seen self.old) (seen self.new) }
-        ensures left { self.new.processes.items
-            ≡ map (left_beside self.new.objects.objects) self.old.processes.items }
+        ensures same_processes { self.new.processes.items ≡ self.old.processes.items }
         ensures consistent { IsConsistent self.new.processes.items self.new.objects }
         ensures unwatched { IsUnwatched self.new.objects }
     {
@@ -404,7 +404,6 @@ impl Made {
         for koid in (0..self.objects.end_of_koids()).rev() {
             self.objects.remove_unheld(koid);
         }
-        leave_from(&mut self.processes, &self.objects, 0);
     }
 }
 

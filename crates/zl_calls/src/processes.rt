@@ -5,7 +5,7 @@ ghost use Rattle.std.specs.List.{position};
 ghost use Rattle.std.specs.Ordering.{nat_cmp};
 ghost use Rattle.std.specs.FinMap.Entries.{is_sorted};
 ghost use Rattle.zl_rights.specs.Map.{get};
-ghost use Rattle.zl_calls.specs.Leaving.{NoneUnstarted};
+ghost use Rattle.zl_calls.specs.Leaving.{HaveBegunBut};
 ghost use Rattle.zl_calls.specs.World.{process_entry, IsPlaceOf};
 
 use crate::process::Process;
@@ -15,24 +15,26 @@ use zl_rights::Pid;
 #[derive(Drop)]
 pub struct Processes {
     pub list: Vec<Process>,
-    // All before this place were started, or are gone.
-    pub unstarted: usize,
+    // The places of those that may be unstarted, in rising order.
+    pub unstarted: Vec<usize>,
     // The place at which the last one was found: each is looked for there first.
     pub near: usize,
     ghost in_order: { IsTrue (is_sorted nat_cmp (map process_entry list.items)) },
-    ghost started: { NoneUnstarted unstarted list.items },
+    ghost started: { HaveBegunBut unstarted.items list.items },
 }
 
 impl Processes {
-    /// One more comes behind the others. There is a place for it, and its koid is above theirs.
+    /// One more comes behind the others, and among those that may be unstarted. There is a place for
+    /// it in both lists, and its koid is above theirs.
     pub fn push_reserved(&mut self, process: Process)
         requires room { length self.old.list.items < vec_capacity self.old.list }
+        requires listed { length self.old.unstarted.items < vec_capacity self.old.unstarted }
         requires in_order { IsTrue (is_sorted nat_cmp
             (map process_entry (self.old.list.items ++ process ∷ []))) }
         ensures items { self.new.list.items ≡ self.old.list.items ++ process ∷ [] }
         ensures capacity { vec_capacity self.new.list ≡ vec_capacity self.old.list }
     {
-        self.unstarted = self.unstarted.min(self.list.len());
+        self.unstarted.push_reserved(self.list.len());
         self.list.push_reserved(process);
     }
 

@@ -120,7 +120,7 @@ impl World {
             library,
             processes: Processes {
                 list: processes,
-                unstarted: 0,
+                unstarted: Vec::new(alloc),
                 near: 0,
             },
             objects,

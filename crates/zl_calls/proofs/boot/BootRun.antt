@@ -1,13 +1,12 @@
 -- One statement after another: what was made is what the definitions make, up to the first fault.
-use Rattle.zl_calls.proofs.Common.{All, All-head, All-nil, All-tail, AllByRecursion, Bool, BootCause, Boots, FirstFault, IsCauseOf, IsMaking, IsReached, IsTrue}
-use Rattle.zl_calls.proofs.Common.{Library, List, MOST_ITEMS, Made, Makes, Map, None, Object, Option, Process, Ready, Settles, Settles-exists, Settles-unique}
-use Rattle.zl_calls.proofs.Common.{Some, State, Statement, World, [], ap, arith, at_limit, at_statement, boot_effect, boot_fault, free_entry, get_or, has_key}
-use Rattle.zl_calls.proofs.Common.{left_beside, left_state, length, lives, map, may_boot, most_word, origin, process_entry, refl, root_alone, seen, settled}
-use Rattle.zl_calls.proofs.Common.{slice_get-get_or, state_value, sym, take, take_all, take_more, true, word_of, ℕ, ◌++◌, ◌+◌, ◌<◌, ◌∙◌, ◌∷◌, ◌≡◌, ◌≢◌, ◌≤◌}
+use Rattle.zl_calls.proofs.Common.{All, All-head, All-nil, All-tail, AllByRecursion, BootCause, Boots, FirstFault, IsCauseOf, IsMaking, IsReached, IsTrue}
+use Rattle.zl_calls.proofs.Common.{Library, List, MOST_ITEMS, Made, Makes, None, Option, Process, Settles, Settles-exists, Settles-unique}
+use Rattle.zl_calls.proofs.Common.{Some, Statement, World, [], ap, arith, at_limit, at_statement, boot_effect, boot_fault, free_entry, get_or}
+use Rattle.zl_calls.proofs.Common.{length, map, may_boot, most_word, origin, process_entry, refl, root_alone, seen, settled}
+use Rattle.zl_calls.proofs.Common.{slice_get-get_or, sym, take, take_all, take_more, word_of, ℕ, ◌++◌, ◌+◌, ◌<◌, ◌∙◌, ◌∷◌, ◌≡◌, ◌≢◌, ◌≤◌}
 use Rattle.zl_code.specs.declared.boot.BootCause.TheVariants as cause
 use Rattle.zl_code.specs.OwnBoot.{fresh_free, own_boot, own_given, own_made}
 use Rattle.zl_calls.specs.Makes.{IsFresh, own_seen}
-use Rattle.zl_calls.specs.declared.process.State.TheVariants as state
 use Rattle.zl_calls.proofs.boot.BootMaking.{starts_making}
 
 -- the statements made this
@@ -64,34 +63,25 @@ all_small lib ss i made all so_far = rw take_all at so_far.words
 
 -- ---- the own boot world
 
--- a ready process stays, whatever objects go
-left_ready : (b : Bool) (s : State) → state_value s ≡ Ready → lives (state_value (left_state b s)) ≡ true
-left_ready b state.Ready is = refl
-left_ready b state.Created is = absurd cc
-left_ready b state.Gone is = absurd cc
-left_ready b (state.Blocked a rs) is = absurd cc
-left_ready b (state.Ended code) is = absurd cc
-
-fresh_left : (os : Map Object) (ps : List Process) → All IsFresh ps
-    → map free_entry (map (left_beside os) ps) ≡ map (λ e. (e.0, record { freed = []; made = length e.1.handles }))
-    (map process_entry (map (left_beside os) ps))
-fresh_left os [] all = refl
-fresh_left os (p ∷ ps) all =
+-- a ready process has its own values
+fresh_values : (ps : List Process) → All IsFresh ps
+    → map free_entry ps ≡ map (λ e. (e.0, record { freed = []; made = length e.1.handles })) (map process_entry ps)
+fresh_values [] all = refl
+fresh_values (p ∷ ps) all =
     let first = All-head IsFresh p ps all in
-    let value : free_entry (left_beside os p) ≡ (p.pid, record { freed = []; made = length p.table.entries })
-    = rw (left_ready (has_key os p.pid) p.state first.ready, first.free) refl in
-    λ i. value i ∷ fresh_left os ps (All-tail IsFresh p ps all) i
+    let value : free_entry p ≡ (p.pid, record { freed = []; made = length p.table.entries }) = rw (first.ready, first.free) refl in
+    λ i. value i ∷ fresh_values ps (All-tail IsFresh p ps all) i
 
 -- what was made is the own boot world, once what isn't held is gone
 pub own_booted : (lib : Library) (ss : List Statement) (i : ℕ) (made new : Made) → length ss ≤ i → IsMadeBy lib (take i ss) made
-    → Settles (seen made) (seen new) → new.processes.items ≡ map (left_beside new.objects.objects) made.processes.items → own_seen new ≡ own_boot lib ss
-own_booted lib ss i made new all so_far settles left = λ k. record { world = world k; free = (free ∙ ap fresh_free world) k }
+    → Settles (seen made) (seen new) → new.processes.items ≡ made.processes.items → own_seen new ≡ own_boot lib ss
+own_booted lib ss i made new all so_far settles same = λ k. record { world = world k; free = (free ∙ ap fresh_free world) k }
   where
     world : seen new ≡ settled (own_made lib origin ss)
     world = Settles-unique (seen made) (seen new) (settled (seen made)) settles (Settles-exists (seen made)) ∙ ap settled (rw take_all at so_far.own)
 
     free : map free_entry new.processes.items ≡ fresh_free (seen new)
-    free = rw left (fresh_left new.objects.objects made.processes.items so_far.fresh)
+    free = rw same (fresh_values made.processes.items so_far.fresh)
 
 -- ---- faults
 

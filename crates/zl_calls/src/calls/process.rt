@@ -104,8 +104,8 @@ pub fn process_create<const TESTED: bool>(
     }
 }
 
-/// Makes the Cpu of one process more, which runs the image, and room for that process and for each
-/// process in the list of the blocked.
+/// Makes the Cpu of one process more, which runs the image, and room for that process, for its place
+/// among the unstarted, and for each process in the list of the blocked.
 fn prepare(
     alloc: Global,
     image: &Image,
@@ -116,6 +116,8 @@ fn prepare(
     ensures cpu { IfOk result (λ cpu. cpu ≡ started_cpu image.now 0) }
     ensures place { OnOk result
         (length processes.old.list.items + 1 ≤ vec_capacity processes.new.list) }
+    ensures listed { OnOk result
+        (length processes.new.unstarted.items < vec_capacity processes.new.unstarted) }
     ensures room { OnOk result
         (length processes.old.list.items + 1 ≤ vec_capacity blocked.new) }
     ensures kept { KeepsRoom processes.old blocked.old processes.new blocked.new }
@@ -123,6 +125,7 @@ fn prepare(
     ensures same_blocked { blocked.new.items ≡ blocked.old.items }
 {
     processes.list.reserve(1)?;
+    processes.unstarted.reserve(1)?;
     blocked.reserve(processes.list.len() + 1 - blocked.len())?;
     Cpu::new(alloc, image, 0)
 }

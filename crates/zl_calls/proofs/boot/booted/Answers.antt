@@ -1,5 +1,6 @@
 use Rattle.zl_calls.proofs.Common.{IsCauseOf, List, Makes, Statement, ap, boot_fault, get_or, most_word, seen, subst, word_of, ◌∙◌, ◌≤◌}
 use Rattle.zl_calls.proofs.boot.BootRun.{none_made, one_more, all_small, first_fault, limit_fault, none_reached, own_booted, some_reached}
+use Rattle.zl_calls.proofs.processes.Started.{fresh_started}
 use Rattle.zl_calls.proofs.boot.booted.Goals as goal
 
 pub returns-in_default-clause-reached : goal.returns-in_default-clause-reached
@@ -52,4 +53,7 @@ pub returns-clause-own : goal.returns-clause-own
 returns-clause-own c =
     let statements = c.deref-statement-items.ensures.value in
     own_booted c.args.library.now c.args.boot.now.statements.items c.loop-number.number c.loop-number.made c.settle.new.self
-    (rw statements at c.loop-number-test.false) c.loop-number.invariant c.settle.ensures.settles c.settle.ensures.left
+    (rw statements at c.loop-number-test.false) c.loop-number.invariant c.settle.ensures.settles c.settle.ensures.same_processes
+
+pub returns-clause-started : goal.returns-clause-started
+returns-clause-started c = rw c.settle.ensures.same_processes (fresh_started c.loop-number.made.processes.items c.loop-number.invariant.fresh)

@@ -1,11 +1,11 @@
-use Rattle.zl_calls.proofs.Common.{ap, arith, left_beside, map, refl, ℕ, ◌+◌, ◌-◌, ◌∙◌, ◌≡◌}
+use Rattle.zl_calls.proofs.Common.{List, Process, Settles, [], arith, refl, subst, world_value, ℕ, ◌+◌, ◌-◌, ◌≡◌}
 use Rattle.zl_calls.proofs.boot.BootConsistent.{all_swept, none_swept, one_swept}
-use Rattle.zl_calls.proofs.processes.Departed.{left_keeps}
+use Rattle.zl_calls.proofs.processes.Started.{all_left_alone, fresh_started}
 use Rattle.zl_calls.proofs.boot.Made.settle.Goals as goal
 
 pub loop-koid-init : goal.loop-koid-init
 loop-koid-init c = record {
-  swept = rw c.end_of_koids-koid.ensures (none_swept c.args.self.now.processes.items c.args.self.now.objects c.requires);
+  swept = rw c.end_of_koids-koid.ensures (none_swept c.args.self.now.processes.items c.args.self.now.objects c.requires.making);
   processes = refl;
 }
 
@@ -18,23 +18,23 @@ loop-koid-preserved c =
       processes = c.loop-koid.invariant.processes;
     }
 
+all : (c : goal.After-loop-koid) → ◌≡◌ {A = ℕ} c.loop-koid.koid 0
+all c = omega (arith, c.loop-koid-test.false)
+
+-- all are ready, so that none goes
 pub returns-clause-settles : goal.returns-clause-settles
 returns-clause-settles c =
-    let all : ◌≡◌ {A = ℕ} c.loop-koid.koid 0 = omega (arith, c.loop-koid-test.false) in
-    rw (c.leave_from.ensures, c.loop-koid.invariant.processes)
-    ((all_swept c.args.self.now.processes.items c.args.self.now.objects c.loop-koid.self.objects c.requires (rw all at c.loop-koid.invariant.swept)).settles)
+    rw c.loop-koid.invariant.processes
+    (subst (λ (ps : List Process). Settles (world_value c.args.self.now.processes.items c.args.self.now.objects) (world_value ps c.loop-koid.self.objects))
+    (all_left_alone c.loop-koid.self.objects c.args.self.now.processes.items [] refl (fresh_started c.args.self.now.processes.items c.requires.fresh))
+    ((all_swept c.args.self.now.processes.items c.args.self.now.objects c.loop-koid.self.objects c.requires.making
+    (rw (all c) at c.loop-koid.invariant.swept)).settles))
 
 pub returns-clause-consistent : goal.returns-clause-consistent
 returns-clause-consistent c =
-    let all : ◌≡◌ {A = ℕ} c.loop-koid.koid 0 = omega (arith, c.loop-koid-test.false) in
-    rw (c.leave_from.ensures, c.loop-koid.invariant.processes)
-    (left_keeps c.args.self.now.processes.items c.loop-koid.self.objects
-    (all_swept c.args.self.now.processes.items c.args.self.now.objects c.loop-koid.self.objects c.requires (rw all at c.loop-koid.invariant.swept)).consistent)
+    rw c.loop-koid.invariant.processes
+    (all_swept c.args.self.now.processes.items c.args.self.now.objects c.loop-koid.self.objects c.requires.making
+    (rw (all c) at c.loop-koid.invariant.swept)).consistent
 
 pub returns-clause-unwatched : goal.returns-clause-unwatched
-returns-clause-unwatched c =
-    let all : ◌≡◌ {A = ℕ} c.loop-koid.koid 0 = omega (arith, c.loop-koid-test.false) in
-    c.loop-koid.invariant.swept.unwatched c.requires.unwatched
-
-pub returns-clause-left : goal.returns-clause-left
-returns-clause-left c = c.leave_from.ensures ∙ ap (map (left_beside c.loop-koid.self.objects.objects)) c.loop-koid.invariant.processes
+returns-clause-unwatched c = (rw (all c) at c.loop-koid.invariant.swept).unwatched c.requires.making.unwatched

@@ -1,4 +1,4 @@
-use Rattle.zl_calls.proofs.Common.{All-nil, AreBlocked, HasBegun, IsBoot, arith, boot_awake, boot_covered, free_entry, map, sym, world_blocked, ◌∙◌}
+use Rattle.zl_calls.proofs.Common.{AreBlocked, IsBoot, arith, boot_awake, boot_covered, free_entry, map, sym, world_blocked, ◌∙◌}
 use Rattle.zl_code.proofs.ProgramsKept.{boot_programs}
 use Rattle.zl_calls.proofs.boot.BootBlocked.{booted_boots, booted_sound, booted_world, none_blocked}
 use Rattle.zl_calls.proofs.waking.Ordered.{none_ordered}
@@ -17,7 +17,10 @@ are c = none_blocked c.args.library c.args.boot.now.statements.items c.in_ok-pro
     c.in_ok-processes.ensures.ok ((c.in-Ok.ensures {u = tt}).items)
 
 pub invariant_of-result : goal.invariant_of-result
-invariant_of-result c = record { in_order = c.in_ok-processes.ensures.consistent.processes_in_order; started = All-nil HasBegun }
+invariant_of-result c = record {
+  in_order = c.in_ok-processes.ensures.consistent.processes_in_order;
+  started = rw c.new.ensures.items c.in_ok-processes.ensures.started;
+}
 
 pub invariant_of-result-2 : goal.invariant_of-result-2
 invariant_of-result-2 c = record {

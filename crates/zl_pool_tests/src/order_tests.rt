@@ -10,6 +10,10 @@ const THIRD: Pid = 4;
 
 const FOURTH: Pid = 5;
 
+const FIFTH: Pid = 6;
+
+const SIXTH: Pid = 7;
+
 /// Waits for the first user signal of the process of its handle, and exits with the word.
 pub const WAITS_FOR_SIGNAL: &str = ".raw
 const r4, 16777216
@@ -217,4 +221,102 @@ end schedule
 #[test]
 fn one_that_is_killed_leaves_the_list(rt: HostRuntime) -> Result<(), Fail> {
     play(rt.alloc(), &ONE_IS_KILLED)
+}
+
+/// The fourth process wakes the third and the second, of which the third blocked first, while the first
+/// is out: the two come by koid, behind the ready ones and before their waker.
+const TWO_WAKE: Scene = Scene {
+    own: &[
+        (CALLS, 1),
+        (WAITS_FOR_SIGNAL, 2),
+        (WAITS_FOR_SIGNAL, 3),
+        (RAISES, 4),
+        (CALLS, 5),
+    ],
+    other: &[],
+    in_job: 0,
+    limit: 100,
+    acts: &[
+        Act::Step(THIRD),
+        Act::Step(THIRD),
+        Act::Step(SECOND),
+        Act::Step(SECOND),
+        Act::Take(FIRST),
+        Act::Step(FOURTH),
+        Act::Step(FOURTH),
+        Act::Take(FIFTH),
+        Act::Take(SECOND),
+        Act::Take(THIRD),
+        Act::Take(FOURTH),
+        Act::TakeNothing,
+    ],
+    trace: "4 run 1
+4 wait_one blocked
+3 run 1
+3 wait_one blocked
+5 run 1
+5 signal OK
+process 2 ready
+process 3 ready
+process 4 ready
+process 5 ready
+process 6 ready
+end schedule
+",
+};
+
+#[test]
+fn two_that_wake_come_by_koid(rt: HostRuntime) -> Result<(), Fail> {
+    play(rt.alloc(), &TWO_WAKE)
+}
+
+/// The fifth process kills the first, for whose end three others wait: it leaves the list, and they come
+/// by koid, whoever blocked first.
+const THREE_WAKE_BY_A_KILL: Scene = Scene {
+    own: &[
+        (CALLS, 1),
+        (AWAITS, 2),
+        (AWAITS, 3),
+        (AWAITS, 4),
+        (KILLS, 5),
+        (CALLS, 6),
+    ],
+    other: &[],
+    in_job: 0,
+    limit: 100,
+    acts: &[
+        Act::Step(FOURTH),
+        Act::Step(FOURTH),
+        Act::Step(SECOND),
+        Act::Step(SECOND),
+        Act::Step(THIRD),
+        Act::Step(THIRD),
+        Act::Step(FIFTH),
+        Act::Take(SIXTH),
+        Act::Take(SECOND),
+        Act::Take(THIRD),
+        Act::Take(FOURTH),
+        Act::Take(FIFTH),
+        Act::TakeNothing,
+    ],
+    trace: "5 run 1
+5 wait_one blocked
+3 run 1
+3 wait_one blocked
+4 run 1
+4 wait_one blocked
+6 task_kill OK
+process 2 ended -1024
+process 3 ready
+process 4 ready
+process 5 ready
+process 6 ready
+process 7 ready
+end schedule
+",
+};
+
+#[test]
+fn three_that_wake_by_a_kill_come_by_koid(rt: HostRuntime) -> Result<(), Fail> {
+    play(rt.alloc(), &THREE_WAKE_BY_A_KILL)
 }

@@ -86,3 +86,28 @@ fn a_kill_tells_who_woke(rt: HostRuntime) -> Result<(), Fail> {
     let own = [(CALLS, 1), (AWAITS, 2), (KILLS, 3)];
     tells(&mut world(rt.alloc(), &own, 0)?, &KILLING)
 }
+
+/// Two processes block, and both wake behind one signal: each is told, the longest blocked first, and there
+/// is room for all processes.
+#[test]
+fn a_step_tells_all_who_woke(rt: HostRuntime) -> Result<(), Fail> {
+    let own = [
+        (CALLS, 1),
+        (WAITS_FOR_SIGNAL, 2),
+        (WAITS_FOR_SIGNAL, 3),
+        (RAISES, 4),
+    ];
+    let mut world = world(rt.alloc(), &own, 0)?;
+    let blocks = [(4, None), (4, None), (3, None), (3, None), (5, None)];
+    tells(&mut world, &blocks)?;
+    let Some((_, Woke::Several(list))) = world.step(5) else {
+        return Err(Fail::from("not several became ready"));
+    };
+    if !list.whole || list.pids.as_slice() != &[4, 3] {
+        return Err(Fail::from("not just these became ready"));
+    }
+    if list.pids.capacity() < 5 {
+        return Err(Fail::from("there is no room for all"));
+    }
+    Ok(())
+}

@@ -20,7 +20,7 @@ pub fn leave(processes: &mut Processes, objects: &Objects)
     }
 }
 
-/// The same, where some are listed. Those that aren't unstarted any more leave the list.
+/// The same, where some are listed. Places of those that aren't unstarted any more leave the list.
 #[inline(never)]
 fn leave_listed(processes: &mut Processes, objects: &Objects)
     ensures left { processes.new.list.items
@@ -33,7 +33,7 @@ fn leave_listed(processes: &mut Processes, objects: &Objects)
     keep_unstarted(&mut processes.unstarted, &processes.list);
 }
 
-/// Each process that was never started is gone, if its object is. All of them are at these places.
+/// The same, of the processes at these places, where no other is unstarted.
 fn leave_each(processes: &mut Vec<Process>, objects: &Objects, places: &[usize])
     requires { HaveBegunBut places.now processes.old.items }
     ensures { processes.new.items ≡ map (left_beside objects.now.objects) processes.old.items }

@@ -1,1 +1,5 @@
+pub mod BySignal
+pub mod Entries
+pub mod Numbered
+pub mod Results
 pub mod Takes

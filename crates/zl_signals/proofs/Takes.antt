@@ -1,6 +1,6 @@
 -- What is left of a list, where the first element that passes was taken out.
-use Rattle.zl_rights.proofs.Common.{◌≡◌, ℕ, ◌+◌, ◌<◌, ◌≤◌, Bool, true, false, List, [], ◌∷◌, length, filter, cond, Option, Some, None, IfSome, IsSome, arith}
-use Rattle.zl_rights.proofs.Common.{ap, refl, false≢true, find, position, take_all, slice_get, slice_get-get_or, nat_tests, append-nil}
+use Rattle.zl_rights.proofs.Common.{◌≡◌, ℕ, ◌+◌, ◌<◌, ◌≤◌, Bool, List, length, Option, Some, None, IfSome, IsSome, arith}
+use Rattle.zl_rights.proofs.Common.{refl, false≢true, find, position, take_all, slice_get, slice_get-get_or, nat_tests, append-nil}
 use Rattle.std.proofs.Common.{add-one}
 use Rattle.std.specs.Prelude.{◌↔◌, OnSome, slice_index_or}
 use Rattle.std.specs.List.{position_or_len, remove}
@@ -46,13 +46,3 @@ module _ {X : Type 0} (p : X → Bool) (xs : List X) where
         left : (o : Option X) → IsSome o → OnSome o (rest ≡ remove xs i) → rest ≡ without_first p xs
         left None none is = elim (false≢true none) [ ]
         left (Some x) some is = rw (is, (here i at).0, add-one) refl
-
--- what passes stays where a list is filtered once more
-pub filter_twice : {X : Type 0} (p : X → Bool) (xs : List X) → filter p (filter p xs) ≡ filter p xs
-filter_twice p [] = refl
-filter_twice p (x ∷ xs) = by_test (p x) refl (filter_twice p xs)
-  where
-    by_test : (b : Bool) → p x ≡ b → filter p (filter p xs) ≡ filter p xs
-        → filter p (cond b (x ∷ filter p xs) (filter p xs)) ≡ cond b (x ∷ filter p xs) (filter p xs)
-    by_test true is rest = rw is (ap (λ ys. x ∷ ys) rest)
-    by_test false is rest = rest

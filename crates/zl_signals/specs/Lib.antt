@@ -1,2 +1,5 @@
 pub mod Waits
 pub mod Asked
+pub mod Numbered
+pub mod Firsts
+pub mod Boxed

@@ -1,5 +1,5 @@
 -- What is raised at an object and the waits that are registered there, and what operations make of them.
-use Rattle.std.specs.Prelude.{ℕ, Bool, not, ◌&&◌, ◌==◌, ◌≡◌, List, [], ◌∷◌, ◌++◌, Option, IfSome, filter, option_map}
+use Rattle.std.specs.Prelude.{ℕ, Bool, not, ◌&&◌, ◌==◌, List, [], ◌∷◌, ◌++◌, Option, filter, option_map}
 use Rattle.std.specs.List.{find, before_first, after_first}
 use Rattle.zl_rights.specs.Numbers.{changed, meets}
 use Rattle.zl_rights.specs.World.{Wait}
@@ -54,10 +54,6 @@ without_wait s test = record s { waits = without_first test s.waits }
 -- the state without the waits that give their packets to the port
 abbrev pub without_port : SignalState → ℕ → SignalState
 without_port s port = record s { waits = filter (λ x. not (is_at_port port x)) s.waits }
-
--- none of the waits gives its packet to this port
-abbrev pub NoneGives : Option ℕ → List Watch → Type 0
-NoneGives port waits = IfSome port (λ p. filter (λ x. not (is_at_port p x)) waits ≡ waits)
 
 -- the order of the earliest wait that holds
 abbrev pub next_order : SignalState → ℕ → Option ℕ

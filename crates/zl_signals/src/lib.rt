@@ -6,7 +6,9 @@
 //! its type is meant.
 #![tactic(auto)]
 
+mod firsts;
 mod signal_state;
+mod waits;
 mod watch;
 
 pub use signal_state::SignalState;

@@ -1,38 +1,44 @@
 ghost use Rattle.std.specs.Prelude.{◌≡◌, [], OnOk, OnErr, IfErr, IfNone, drop, filter, not, slice_get};
-ghost use Rattle.std.specs.List.{find, position};
+ghost use Rattle.std.specs.List.{find};
 ghost use Rattle.zl_rights.specs.Signals.{is_empty};
-ghost use Rattle.zl_signals.specs.Asked.{takes_out};
 ghost use Rattle.zl_signals.specs.Waits.{is_at_port, is_by_handle_here, is_keyed_here, next_order, watch_holds, with_changed, with_wait, without_first, without_port, without_wait};
 
-use crate::watch::{Asked, Watch};
+use crate::waits::Waits;
+use crate::watch::Watch;
 use bitflags::Flags;
 use std::alloc::{AllocFailed, Global};
-use std::collections::VecDeque;
 use std::marker::Model;
 use zl_rights::{HValue, Koid, Pid, Signals};
 
 /// The signals that calls raised at an object, and the waits that are registered there.
 ///
 /// Source: the pages "Signals" and "zx_object_wait_async" of the Fuchsia documentation.
-#[derive(Drop)]
 pub struct SignalState {
     raised: Signals,
-    // The earliest registered first.
-    waits: VecDeque<Watch>,
-    // None of the waits gives its packet to this port. A port that goes may have many waits here, each
-    // of which leads to `end_port`: those are gone through once.
-    ended: Option<Koid>,
+    alloc: Global,
+    // Most objects have no waits, so that they stand apart. The box stays once it is there.
+    waits: Option<Box<Waits>>,
 }
 
 impl Model for SignalState {
-    ghost use Rattle.zl_signals.specs.Asked.{takes_out};
-    ghost use Rattle.zl_signals.specs.Waits.{NoneGives, SignalState as SignalStateValue};
+    ghost use Rattle.zl_signals.specs.Boxed.{waits_in};
+    ghost use Rattle.zl_signals.specs.Waits.{SignalState as SignalStateValue};
 
     ghost Value = { SignalStateValue };
 
-    ghost view = { λ s. record { raised = s.raised.0; waits = s.waits.items } };
+    ghost view = { λ s. record { raised = s.raised.0; waits = waits_in s.waits } };
+}
 
-    ghost invariant = { λ s. NoneGives s.ended s.waits.items };
+impl Drop for SignalState {
+    // A function of its own, so that what lets an object go asks not whether it has a box.
+    fn drop(self) {
+        let SignalState {
+            raised: _,
+            alloc: _,
+            waits,
+        } = self;
+        drop(waits);
+    }
 }
 
 impl SignalState {
@@ -42,8 +48,8 @@ impl SignalState {
     {
         SignalState {
             raised: Signals::empty(),
-            waits: VecDeque::new(alloc),
-            ended: None,
+            alloc,
+            waits: None,
         }
     }
 
@@ -58,7 +64,10 @@ impl SignalState {
     pub fn has_waits(&self) -> bool
         ensures { result ≡ not (is_empty self.now.waits) }
     {
-        !self.waits.is_empty()
+        match &self.waits {
+            Some(waits) => !waits.by_number.is_empty(),
+            None => false,
+        }
     }
 
     /// The signals `clear` go, and then the signals `set` come. It takes no memory.
@@ -79,8 +88,15 @@ impl SignalState {
         ensures unchanged { OnErr result (self.new ≡ self.old) }
         ensures handed_back { IfErr result (λ refused. refused.value ≡ watch) }
     {
-        self.ended = None;
-        self.waits.push_back(watch)
+        if let Some(waits) = &mut self.waits {
+            return waits.push(watch);
+        }
+        let Ok(mut waits) = Box::new(self.alloc, Waits::new(self.alloc)) else {
+            return Err(AllocFailed { value: watch });
+        };
+        waits.push(watch)?;
+        self.waits = Some(waits);
+        Ok(())
     }
 
     /// Takes out the earliest wait that the process made by its handle of this value, or nothing
@@ -93,8 +109,9 @@ impl SignalState {
         ensures rest { self.new ≡ without_wait self.old (is_by_handle_here pid value) }
         ensures unchanged { IfNone result (self.new ≡ self.old) }
     {
-        self.ended = None;
-        take_first(&mut self.waits, Asked::ByHandle(pid, value))
+        let waits = self.waits.as_mut()?;
+        let found = waits.next_by_handle(pid, value, 0);
+        waits.take(found)
     }
 
     /// Takes out the earliest wait that gives its packet to the port, or nothing where there is
@@ -106,8 +123,9 @@ impl SignalState {
         ensures rest { self.new ≡ without_wait self.old (is_at_port port) }
         ensures unchanged { IfNone result (self.new ≡ self.old) }
     {
-        self.ended = None;
-        take_first(&mut self.waits, Asked::AtPort(port))
+        let waits = self.waits.as_mut()?;
+        let found = waits.first_at_port(port);
+        waits.take(found)
     }
 
     /// Takes out all waits that give their packets to the port. It takes no memory.
@@ -116,11 +134,9 @@ impl SignalState {
     pub fn end_port(&mut self, port: Koid)
         ensures { self.new ≡ without_port self.old port }
     {
-        if self.ended == Some(port) {
-            return;
+        if let Some(waits) = &mut self.waits {
+            waits.end_port(port);
         }
-        keep_others(&mut self.waits, port);
-        self.ended = Some(port);
     }
 
     /// Takes out the earliest wait, or nothing where there is none. It takes no memory.
@@ -130,8 +146,7 @@ impl SignalState {
         ensures first { result ≡ slice_get self.old.waits 0 }
         ensures rest { self.new ≡ record self.old { waits = drop 1 self.old.waits } }
     {
-        self.ended = None;
-        self.waits.pop_front()
+        self.waits.as_mut()?.take_earliest()
     }
 
     /// Takes out the earliest wait that the process made by its handle of this value for a packet
@@ -143,8 +158,9 @@ impl SignalState {
         ensures rest { self.new ≡ without_wait self.old (is_keyed_here pid value port key) }
         ensures unchanged { IfNone result (self.new ≡ self.old) }
     {
-        self.ended = None;
-        take_first(&mut self.waits, Asked::Keyed(pid, value, port, key))
+        let waits = self.waits.as_mut()?;
+        let found = waits.first_keyed(pid, value, port, key);
+        waits.take(found)
     }
 
     /// The order of the wait that `fire` would take out, if one holds. It takes no memory.
@@ -153,9 +169,7 @@ impl SignalState {
     pub fn next_order(&self, active: Signals) -> Option<u64>
         ensures { result ≡ next_order self.now active.0 }
     {
-        let asked = Asked::Holding(active);
-        let wait = self.waits.iter().find(|wait| asked.takes(wait))?;
-        Some(wait.order)
+        self.waits.as_ref()?.next_order(active)
     }
 
     /// Takes out the earliest wait that holds, as a signal of its mask is active, or nothing where
@@ -168,31 +182,8 @@ impl SignalState {
         ensures rest { self.new ≡ without_wait self.old (watch_holds active.0) }
         ensures unchanged { IfNone result (self.new ≡ self.old) }
     {
-        self.ended = None;
-        take_first(&mut self.waits, Asked::Holding(active))
+        let waits = self.waits.as_mut()?;
+        let found = waits.first_holding(active);
+        waits.take(found)
     }
-}
-
-/// Takes out the earliest wait that is asked for, or nothing where there is none.
-fn take_first(waits: &mut VecDeque<Watch>, asked: Asked) -> Option<Watch>
-    ensures earliest { result ≡ find (takes_out asked) waits.old.items }
-    ensures rest { waits.new.items ≡ without_first (takes_out asked) waits.old.items }
-    ensures unchanged { IfNone result (waits.new.items ≡ waits.old.items) }
-{
-    let place = place_of(waits, &asked)?;
-    waits.remove(place)
-}
-
-/// Takes out the waits that give their packets to the port.
-fn keep_others(waits: &mut VecDeque<Watch>, port: Koid)
-    ensures { waits.new.items ≡ filter (λ x. not (is_at_port port x)) waits.old.items }
-{
-    waits.retain(|wait| wait.port != port);
-}
-
-/// Where the earliest wait stands that is asked for.
-fn place_of(waits: &VecDeque<Watch>, asked: &Asked) -> Option<usize>
-    ensures { result ≡ position (takes_out asked.now) waits.now.items }
-{
-    waits.iter().position(|wait| asked.takes(wait))
 }

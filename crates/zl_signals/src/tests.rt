@@ -1,6 +1,7 @@
 use crate::{SignalState, Watch};
 use bitflags::Flags;
 use std::alloc::Global;
+use std::collections::VecDeque;
 use std::test::Fail;
 use zl_rights::{HValue, Koid, Pid, Signals};
 
@@ -107,8 +108,79 @@ fn a_wait_without_memory_comes_back(rt: HostRuntime) {
     for n in 0..20 {
         assert!(rt; watch_again(&mut state, watch(2, 1, 7, n, Signals::SIGNALED, n)));
     }
-    for n in 0..20 {
+    for n in 0..10 {
         assert_eq!(rt; order(state.fire(Signals::SIGNALED)), Some(n));
     }
+    for n in 10..20 {
+        assert_eq!(rt; order(state.unwatch_handle(2, 1)), Some(n));
+    }
     assert!(rt; state.fire(Signals::SIGNALED).is_none());
+    assert!(rt; state.unwatch_handle(2, 1).is_none());
+}
+
+/// The order of the first wait of a plain list that is for one of these signals, which goes.
+fn fire_listed(list: &mut VecDeque<Watch>, active: Signals) -> Option<u64> {
+    let place = list.iter().position(|wait| active.intersects(wait.mask))?;
+    order(list.remove(place))
+}
+
+/// The same of the first that was made by the handle.
+fn unwatch_listed(list: &mut VecDeque<Watch>, pid: Pid, value: HValue) -> Option<u64> {
+    let place = list
+        .iter()
+        .position(|wait| wait.pid == pid && wait.value == value)?;
+    order(list.remove(place))
+}
+
+/// The same of the first that gives its packet to the port.
+fn unwatch_port_listed(list: &mut VecDeque<Watch>, port: Koid) -> Option<u64> {
+    let place = list.iter().position(|wait| wait.port == port)?;
+    order(list.remove(place))
+}
+
+/// A wait that differs from those around it, by how many were registered before it.
+fn nth_wait(n: u32) -> Watch {
+    let mask = match n % 4 {
+        0 => Signals::SIGNALED,
+        1 => Signals::USER_0,
+        2 => Signals::SIGNALED.union(Signals::USER_7),
+        _ => Signals::empty(),
+    };
+    let order = u64::from(n);
+    watch(order % 3, 1 + n % 5, 7 + order % 2, order % 7, mask, order)
+}
+
+/// Each third time some waits go, each by another way.
+#[test]
+fn waits_go_as_from_a_plain_list(rt: HostRuntime) -> Result<(), Fail> {
+    let mut state = SignalState::new(rt.alloc());
+    let mut list = VecDeque::new(rt.alloc());
+    for n in 0..300 {
+        let Watch {
+            pid,
+            value,
+            port,
+            ..
+        } = nth_wait(n);
+        state.watch(nth_wait(n))?;
+        list.push_back(nth_wait(n))?;
+        if n % 3 == 2 {
+            let fired = fire_listed(&mut list, Signals::USER_7);
+            assert_eq!(rt; state.next_order(Signals::USER_7), fired);
+            assert_eq!(rt; order(state.fire(Signals::USER_7)), fired);
+            let gone = unwatch_listed(&mut list, pid, value);
+            assert_eq!(rt; order(state.unwatch_handle(pid, value)), gone);
+            let ended = unwatch_port_listed(&mut list, port);
+            assert_eq!(rt; order(state.unwatch_port(port)), ended);
+        }
+    }
+    for _ in 0..300 {
+        let active = Signals::SIGNALED.union(Signals::USER_0);
+        let fired = fire_listed(&mut list, active);
+        assert_eq!(rt; state.next_order(active), fired);
+        assert_eq!(rt; order(state.fire(active)), fired);
+        assert_eq!(rt; order(state.take_wait()), order(list.pop_front()));
+    }
+    assert!(rt; !state.has_waits());
+    Ok(())
 }

@@ -21,32 +21,26 @@ pub struct Watch {
     pub order: u64,
 }
 
-/// Which waits are asked for.
+/// Which wait is looked for, among those from a number on.
 #[derive(Drop)]
 pub(crate) enum Asked {
-    /// Those of which a watched signal is among these.
-    Holding(Signals),
-    /// Those that the process made by its handle of this value.
-    ByHandle(Pid, HValue),
-    /// Those that give their packet to this port.
+    /// One for a signal of these.
+    For(Signals),
+    /// One that gives its packet to this port.
     AtPort(Koid),
-    /// Those that the process made by its handle of this value, for a packet with this key to the
-    /// port.
-    Keyed(Pid, HValue, Koid, u64),
+    /// Any.
+    Any,
 }
 
 impl Asked {
-    /// Whether this wait is one of them.
+    /// Whether it may be this wait.
     pub(crate) fn takes(&self, wait: &Watch) -> bool
         ensures { result ≡ takes_out self.now wait.now }
     {
         match self {
-            Asked::Holding(active) => active.intersects(wait.mask),
-            Asked::ByHandle(pid, value) => wait.pid == *pid && wait.value == *value,
+            Asked::For(signals) => wait.mask.intersects(*signals),
             Asked::AtPort(port) => wait.port == *port,
-            Asked::Keyed(pid, value, port, key) => {
-                wait.pid == *pid && wait.value == *value && wait.port == *port && wait.key == *key
-            }
+            Asked::Any => true,
         }
     }
 }

@@ -1,0 +1,356 @@
+-- The waits by their numbers, where one comes or goes: what is found and left, and what the numbers and the indexes say.
+use Rattle.zl_rights.proofs.Common.{◌≡◌, ℕ, ◌+◌, ◌<◌, ◌≤◌, ◌^◌, Bool, true, false, ◌==◌, ◌&&◌, cond, Option, Some, None, List, [], ◌∷◌, slice_index}
+use Rattle.zl_rights.proofs.Common.{ap, arith, cases_Bool, cases_lt, eq-eqb, eqb-true, false≢true, filter, find, if◌then◌else◌, inl, inr, lt-ltb, nat_cmp}
+use Rattle.zl_rights.proofs.Common.{nat_tests, ne_eqb, none-some, not, option_map, refl, replicate, same_Some, subst, sym, ◌∙◌, ◌⊎◌}
+use Rattle.std.proofs.Common.{eqb}
+use Rattle.std.proofs.lemmas.Bool.{ltb-true}
+use Rattle.std.proofs.lemmas.List.{get_or-replicate}
+use Rattle.std.specs.BTreeMap.{is_at, values}
+use Rattle.std.specs.BTreeMap.Range.{IsInRange}
+use Rattle.std.specs.BTreeSet.{BTreeSet, IsKeyRangeOf, Updates, contains}
+use Rattle.std.specs.Cmp.{unsigned_tied}
+use Rattle.std.specs.Option.{option_eq}
+use Rattle.std.specs.Map.{remove_entry, values_of}
+use Rattle.std.specs.declared.ops.Bound.TheVariants.{Included}
+use Rattle.zl_signals.specs.Firsts.{AreMoved, AreNoted}
+use Rattle.zl_signals.specs.Numbered.{AreBelow, AreFirsts, AreIndexed, IsFirst, IsFirstFrom, NO_WAIT, NoneIsAt, Numbered, handle_cmp, is_before, is_for}
+use Rattle.zl_signals.specs.Numbered.{is_found_by, number_of, wait_by}
+use Rattle.zl_signals.specs.Waits.{is_by_handle_here, without_first}
+use Rattle.zl_signals.specs.declared.watch.Watch.{Watch}
+use Rattle.zl_signals.proofs.Entries.{none_filtered, none_out, Rise, some_passes, takes_out, TakesOut}
+
+-- ---- what is found, and what is left
+
+module _ (p : Watch → Bool) (m : Numbered) (rise : Rise m.entries) where
+  -- the first that passes is taken out
+  module _ (n : ℕ) (first : IsFirst p m (Some n)) where
+    taken : (x : Watch) → wait_by m n ≡ Some x → TakesOut p n x m.entries
+    taken x at = takes_out p n x m.entries rise (λ k y found less. first.0 k y found (omega arith) (lt-ltb k n less)) at passes
+      where
+        passes : p x ≡ true
+        passes = same_Some (p x) true (ap (option_map p) (sym at) ∙ (first.1 n refl).1)
+
+    pub found_first : wait_by m n ≡ find p (values m)
+    found_first = let one = some_passes p (wait_by m n) (first.1 n refl).1 in one.1 ∙ sym (taken one.0 one.1).found
+
+    pub goes_first : values_of (remove_entry (is_at (nat_cmp n)) m.entries) ≡ without_first p (values m)
+    goes_first = let one = some_passes p (wait_by m n) (first.1 n refl).1 in (taken one.0 one.1).left
+
+  -- or none is
+  module _ (none : IsFirst p m None) where
+    pub none_found : find p (values m) ≡ None
+    none_found = (none_out p m.entries rise (λ k y at. none.0 k y at (omega arith) refl)).0
+
+    pub none_goes : values m ≡ without_first p (values m)
+    none_goes = (none_out p m.entries rise (λ k y at. none.0 k y at (omega arith) refl)).1
+
+-- none passes
+pub all_fail : (p : Watch → Bool) (m : Numbered) → Rise m.entries → ((n : ℕ) (x : Watch) → wait_by m n ≡ Some x → p x ≡ false)
+    → values m ≡ filter (λ x. not (p x)) (values m)
+all_fail p m rise fails = none_filtered p m.entries rise fails
+
+-- the port that is known to have none is this one
+pub same_port : (known : Option ℕ) (port : ℕ) → option_eq eqb known (Some port) ≡ true → known ≡ Some port
+same_port None port same = absurd (false≢true same)
+same_port (Some p) port same = ap Some (eqb-true p port same)
+
+-- ---- from a number on
+
+module _ (p : Watch → Bool) (m : Numbered) (from : ℕ) (before : (n : ℕ) (x : Watch) → wait_by m n ≡ Some x → n < from → p x ≡ false) where
+  -- where none stands before that number, it is the first of all
+  pub from_start : (o : Option ℕ) → IsFirstFrom from p m o → IsFirst p m o
+  from_start o first = (λ n x at high lower. by_order n x at lower (cases_lt n from), λ n is. (omega arith, (first.1 n is).1))
+    where
+      by_order : (n : ℕ) (x : Watch) → wait_by m n ≡ Some x → is_before n o ≡ true → (n < from) ⊎ (from ≤ n) → p x ≡ false
+      by_order n x at lower (inl less) = before n x at less
+      by_order n x at lower (inr high) = first.0 n x at high lower
+
+  -- behind the one that was taken out, none stands before
+  pub before_next : (k : ℕ) → IsFirstFrom from p m (Some k) → (m2 : Numbered) → ((n : ℕ) → wait_by m2 n ≡ (if k == n then None else wait_by m n))
+      → (n : ℕ) (x : Watch) → wait_by m2 n ≡ Some x → n < k + 1 → p x ≡ false
+  before_next k first m2 others n x at less = elim (cases_Bool (k == n)) [
+    | inl here ↦ absurd (none-some x (sym (others n ∙ rw here refl) ∙ at))
+    | inr apart ↦
+        let other : n ≡ k → ⊥ = λ is. false≢true (sym apart ∙ eq-eqb k n (sym is)) in
+        let lower : n < k = omega (arith, less, other) in
+        (from_start (Some k) first).0 n x (sym (others n ∙ rw apart refl) ∙ at) (omega arith) (lt-ltb n k lower)
+  ]
+
+-- a number that was found is below so many
+pub found_below : (p : Watch → Bool) (m : Numbered) (made from n : ℕ) → AreBelow made m → IsFirstFrom from p m (Some n) → n < made
+found_below p m made from n below first = let one = some_passes p (wait_by m n) (first.1 n refl).1 in below n one.0 one.1
+
+-- ---- numbers
+
+-- a number that was found is one
+pub is_number : (m : Numbered) → AreBelow NO_WAIT m → (n : ℕ) (x : Watch) → wait_by m n ≡ Some x → number_of n ≡ Some n
+is_number m below n x at = rw (ne_eqb n NO_WAIT (λ same. absurd (omega (arith, same, below n x at)))) refl
+
+pub shown : (p : Watch → Bool) (m : Numbered) (from : ℕ) → AreBelow NO_WAIT m → (n : ℕ) → IsFirstFrom from p m (Some n) → IsFirstFrom from p m (number_of n)
+shown p m from below n first = let one = some_passes p (wait_by m n) (first.1 n refl).1 in rw (is_number m below n one.0 one.1) first
+
+number_is : (f n : ℕ) → number_of f ≡ Some n → f ≡ n
+number_is f n is = by_test (f == NO_WAIT) is
+  where
+    by_test : (b : Bool) → (if b then None else Some f) ≡ Some n → f ≡ n
+    by_test true none = absurd (none-some n none)
+    by_test false same = same_Some f n same
+
+-- the numbers are below any that isn't lower
+pub lower : (m : Numbered) (made high : ℕ) → made ≤ high → AreBelow made m → AreBelow high m
+lower m made high less below n x at = omega (arith, less, below n x at)
+
+at_handle : (pid value n pid2 value2 n2 : ℕ)
+    → is_at (handle_cmp (pid, value, n)) (pid2, value2, n2) ≡ (((pid == pid2) && (value == value2)) && (n == n2))
+at_handle pid value n pid2 value2 n2 = grind (arith, nat_tests, unsigned_tied pid pid2, unsigned_tied value value2, unsigned_tied n n2)
+
+-- another entry of the index is as it was
+not_here : (b w d : Bool) → cond (b && false) w d ≡ d
+not_here true w d = refl
+not_here false w d = refl
+
+-- ---- one goes
+
+module _ (m m2 : Numbered) (number : ℕ) (same : (q : ℕ) → wait_by m2 q ≡ cond (is_at (nat_cmp number) q) None (wait_by m q)) where
+  gone : wait_by m2 number ≡ None
+  gone = same number ∙ rw (unsigned_tied number number, eq-eqb number number refl) refl
+
+  others : (q : ℕ) → (number == q) ≡ false → wait_by m2 q ≡ wait_by m q
+  others q apart = same q ∙ rw (unsigned_tied number q, apart) refl
+
+  -- those that are left were there
+  left : (q : ℕ) (y : Watch) → wait_by m2 q ≡ Some y → wait_by m q ≡ Some y
+  left q y at = elim (cases_Bool (number == q)) [
+    | inl here ↦ absurd (none-some y (sym gone ∙ (ap (wait_by m2) (eqb-true number q here) ∙ at)))
+    | inr apart ↦ sym (others q apart) ∙ at
+  ]
+
+  pub taken_below : (made : ℕ) → AreBelow made m → AreBelow made m2
+  taken_below made below n x at = below n x (left n x at)
+
+  pub taken_none : (port : Option ℕ) → NoneIsAt port m → NoneIsAt port m2
+  taken_none port none p is n x at = none p is n x (left n x at)
+
+  pub taken_others : (q : ℕ) → wait_by m2 q ≡ (if number == q then None else wait_by m q)
+  taken_others q = same q ∙ rw (unsigned_tied number q) refl
+
+  module _ (p : Watch → Bool) (f f2 : ℕ) (first : IsFirst p m (number_of f)) where
+    moved_first : f ≡ number → number_of number ≡ Some number → IsFirstFrom number p m2 (number_of f2) → IsFirst p m2 (number_of f2)
+    moved_first is some behind = (λ q y at high before. by_order q y at before (cases_lt q number), λ n found. (omega arith, (behind.1 n found).1))
+      where
+        by_order : (q : ℕ) (y : Watch) → wait_by m2 q ≡ Some y → is_before q (number_of f2) ≡ true → (q < number) ⊎ (number ≤ q) → p y ≡ false
+        by_order q y at before (inl less) =
+            first.0 q y (left q y at) (omega arith) (ap (λ n. is_before q (number_of n)) is ∙ (ap (is_before q) some ∙ lt-ltb q number less))
+        by_order q y at before (inr high) = behind.0 q y at high before
+
+    kept_first : (f == number) ≡ false → IsFirst p m2 (number_of f)
+    kept_first apart = (
+      λ q y at high before. first.0 q y (left q y at) high before,
+      λ n found. (
+        omega arith,
+        ap (option_map p) (others n (ne_eqb number n (λ is. absurd (false≢true (sym apart ∙ eq-eqb f number (number_is f n found ∙ sym is))))))
+            ∙ (first.1 n found).1,
+      ),
+    )
+
+  pub taken_firsts : (firsts firsts2 : List ℕ) → number_of number ≡ Some number → AreMoved m2 number firsts firsts2 → AreFirsts firsts m → AreFirsts firsts2 m2
+  taken_firsts firsts firsts2 some moved are i inside = by_test (f == number) refl
+    where
+      f : ℕ
+      f = slice_index firsts i
+
+      by_test : (b : Bool) → (f == number) ≡ b → IsFirst (is_for (2 ^ i)) m2 (number_of (slice_index firsts2 i))
+      by_test true here =
+          moved_first (is_for (2 ^ i)) f (slice_index firsts2 i) (are i inside) (eqb-true f number here) some ((moved i inside).0 here)
+      by_test false apart = rw ((moved i inside).1 apart) (kept_first (is_for (2 ^ i)) f (slice_index firsts2 i) (are i inside) apart)
+
+  pub taken_indexed : (index index2 : BTreeSet (ℕ × ℕ × ℕ)) (x : Watch) → wait_by m number ≡ Some x
+      → Updates handle_cmp index index2 (x.pid, x.value, number) false → AreIndexed index m → AreIndexed index2 m2
+  taken_indexed index index2 x there updates indexed pid value q =
+      updates.0 (pid, value, q) ∙ rw (at_handle x.pid x.value number pid value q) (by_test (number == q) refl)
+    where
+      by_handle : Bool
+      by_handle = (x.pid == pid) && (x.value == value)
+
+      by_test : (b : Bool) → (number == q) ≡ b → cond (by_handle && b) false (contains handle_cmp index (pid, value, q)) ≡ is_found_by pid value (wait_by m2 q)
+      by_test true here =
+          let at : wait_by m q ≡ Some x = ap (wait_by m) (sym (eqb-true number q here)) ∙ there in
+          let none : wait_by m2 q ≡ None = ap (wait_by m2) (sym (eqb-true number q here)) ∙ gone in
+          rw (indexed pid value q, at, none) (elim by_handle as (λ b. cond (b && true) false b ≡ false) [ true ↦ refl | false ↦ refl ])
+      by_test false apart =
+          rw (indexed pid value q, others q apart) (not_here by_handle false (is_found_by pid value (wait_by m q)))
+
+-- ---- one comes
+
+module _ (m : Numbered) (number : ℕ) (below : AreBelow number m) where
+  absent : (pid value : ℕ) (o : Option Watch) → wait_by m number ≡ o → is_found_by pid value o ≡ false
+  absent pid value None is = refl
+  absent pid value (Some y) is = absurd (omega (arith, below number y is))
+
+  -- the index, where the new wait was taken back
+  pub back_indexed : (x : Watch) (index index1 index2 : BTreeSet (ℕ × ℕ × ℕ)) → Updates handle_cmp index index1 (x.pid, x.value, number) true
+      → Updates handle_cmp index1 index2 (x.pid, x.value, number) false → AreIndexed index m → AreIndexed index2 m
+  back_indexed x index index1 index2 updates back indexed pid value q =
+      back.0 (pid, value, q) ∙ rw (updates.0 (pid, value, q), at_handle x.pid x.value number pid value q, indexed pid value q) (by_test (number == q) refl)
+    where
+      by_handle : Bool
+      by_handle = (x.pid == pid) && (x.value == value)
+
+      by_test : (b : Bool) → (number == q) ≡ b
+          → cond (by_handle && b) false (cond (by_handle && b) true (is_found_by pid value (wait_by m q))) ≡ is_found_by pid value (wait_by m q)
+      by_test true here =
+          rw (ap (λ k. is_found_by pid value (wait_by m k)) (sym (eqb-true number q here)) ∙ absent pid value (wait_by m number) refl)
+          (elim by_handle as (λ b. cond (b && true) false (cond (b && true) true false) ≡ false) [ true ↦ refl | false ↦ refl ])
+      by_test false apart = not_here by_handle false _ ∙ not_here by_handle true (is_found_by pid value (wait_by m q))
+
+module _ (m m2 : Numbered) (number : ℕ) (x : Watch) (same : (q : ℕ) → wait_by m2 q ≡ cond (is_at (nat_cmp number) q) (Some x) (wait_by m q))
+    (below : AreBelow number m) where
+  own : wait_by m2 number ≡ Some x
+  own = same number ∙ rw (unsigned_tied number number, eq-eqb number number refl) refl
+
+  as_before : (q : ℕ) → (number == q) ≡ false → wait_by m2 q ≡ wait_by m q
+  as_before q apart = same q ∙ rw (unsigned_tied number q, apart) refl
+
+  -- it is the new one, or was there
+  came : (q : ℕ) (y : Watch) → wait_by m2 q ≡ Some y → ((number ≡ q) × (x ≡ y)) ⊎ (wait_by m q ≡ Some y)
+  came q y at = elim (cases_Bool (number == q)) [
+    | inl here ↦ let is : number ≡ q = eqb-true number q here in inl (is, same_Some x y (sym own ∙ (ap (wait_by m2) is ∙ at)))
+    | inr apart ↦ inr (sym (as_before q apart) ∙ at)
+  ]
+
+  still : (q : ℕ) (y : Watch) → wait_by m q ≡ Some y → wait_by m2 q ≡ Some y
+  still q y at = as_before q (ne_eqb number q (λ is. absurd (omega (arith, is, below q y at)))) ∙ at
+
+  pub pushed_below : AreBelow (number + 1) m2
+  pushed_below n y at = elim (came n y at) [ inl new ↦ omega (arith, new.0) | inr old ↦ omega (arith, below n y old) ]
+
+  module _ (p : Watch → Bool) where
+    none_yet : IsFirst p m None → p x ≡ false → IsFirst p m2 None
+    none_yet first fails = (
+      λ q y at high before. elim (came q y at) [ inl new ↦ ap p (sym new.1) ∙ fails | inr old ↦ first.0 q y old high before ],
+      λ n none. absurd (none-some n none),
+    )
+
+    it_first : IsFirst p m None → p x ≡ true → IsFirst p m2 (Some number)
+    it_first first passes = (
+      λ q y at high before. elim (came q y at) [
+        | inl new ↦ absurd (omega (arith, new.0, ltb-true q number before))
+        | inr old ↦ first.0 q y old high refl
+      ],
+      λ n is. (omega arith, ap (λ k. option_map p (wait_by m2 k)) (sym (same_Some number n is)) ∙ (ap (option_map p) own ∙ ap Some passes)),
+    )
+
+    behind_first : (f : ℕ) → IsFirst p m (Some f) → IsFirst p m2 (Some f)
+    behind_first f first =
+        let one = some_passes p (wait_by m f) (first.1 f refl).1 in (
+          λ q y at high before. elim (came q y at) [
+            | inl new ↦ absurd (omega (arith, new.0, ltb-true q f before, below f one.0 one.1))
+            | inr old ↦ first.0 q y old high before
+          ],
+          λ n is. (omega arith, ap (λ k. option_map p (wait_by m2 k)) (sym (same_Some f n is)) ∙ (ap (option_map p) (still f one.0 one.1) ∙ ap Some one.2)),
+        )
+
+    noted_first : (f : ℕ) → number_of number ≡ Some number → IsFirst p m (number_of f) → IsFirst p m2 (number_of (if (f == NO_WAIT) && p x then number else f))
+    noted_first f some first = by_test (f == NO_WAIT) refl (p x) refl
+      where
+        by_test : (b : Bool) → (f == NO_WAIT) ≡ b → (d : Bool) → p x ≡ d → IsFirst p m2 (number_of (if b && d then number else f))
+        by_test true none true passes = rw some (it_first (rw none at first) passes)
+        by_test true none false fails = rw none (none_yet (rw none at first) fails)
+        by_test false there d is = rw there (behind_first f (rw there at first))
+
+  pub pushed_firsts : (firsts firsts2 : List ℕ) → number_of number ≡ Some number → AreNoted x.mask.0 number firsts firsts2 → AreFirsts firsts m
+      → AreFirsts firsts2 m2
+  pushed_firsts firsts firsts2 some are_noted are i inside =
+      rw (are_noted i inside) (noted_first (is_for (2 ^ i)) (slice_index firsts i) some (are i inside))
+
+  pub pushed_indexed : (index index2 : BTreeSet (ℕ × ℕ × ℕ)) → Updates handle_cmp index index2 (x.pid, x.value, number) true → AreIndexed index m
+      → AreIndexed index2 m2
+  pushed_indexed index index2 updates indexed pid value q =
+      updates.0 (pid, value, q) ∙ rw (at_handle x.pid x.value number pid value q) (by_test (number == q) refl)
+    where
+      by_handle : Bool
+      by_handle = (x.pid == pid) && (x.value == value)
+
+      by_test : (b : Bool) → (number == q) ≡ b → cond (by_handle && b) true (contains handle_cmp index (pid, value, q)) ≡ is_found_by pid value (wait_by m2 q)
+      by_test true here =
+          let is : number ≡ q = eqb-true number q here in
+          let at : wait_by m2 q ≡ Some x = ap (wait_by m2) (sym is) ∙ own in
+          let none : is_found_by pid value (wait_by m q) ≡ false = ap (λ k. is_found_by pid value (wait_by m k)) (sym is)
+          ∙ absent m number below pid value (wait_by m number) refl in
+          rw (indexed pid value q, none, at) (elim by_handle as (λ b. cond (b && true) true false ≡ b) [ true ↦ refl | false ↦ refl ])
+      by_test false apart =
+          rw (indexed pid value q, as_before q apart) (not_here by_handle true (is_found_by pid value (wait_by m q)))
+
+-- ---- by handle
+
+found_passes : (pid value : ℕ) (o : Option Watch) → is_found_by pid value o ≡ true → option_map (is_by_handle_here pid value) o ≡ Some true
+found_passes pid value None found = absurd (false≢true found)
+found_passes pid value (Some x) found = ap Some found
+
+module _ (index : BTreeSet (ℕ × ℕ × ℕ)) (m : Numbered) (indexed : AreIndexed index m) (below : AreBelow NO_WAIT m) (pid value from : ℕ) (r : List (ℕ × ℕ × ℕ))
+    (part : IsKeyRangeOf handle_cmp (Included (pid, value, from)) (Included (pid, value, NO_WAIT)) index r) where
+  within : (n : ℕ) → from ≤ n → n < NO_WAIT → IsInRange handle_cmp (Included (pid, value, from)) (Included (pid, value, NO_WAIT)) (pid, value, n)
+  within n high low = (
+    grind (arith, nat_tests, unsigned_tied pid pid, unsigned_tied value value, unsigned_tied from n),
+    grind (arith, nat_tests, unsigned_tied pid pid, unsigned_tied value value, unsigned_tied n NO_WAIT, low),
+  )
+
+  shows : (n : ℕ) (y : Watch) → wait_by m n ≡ Some y → contains handle_cmp index (pid, value, n) ≡ is_by_handle_here pid value y
+  shows n y at = indexed pid value n ∙ ap (is_found_by pid value) at
+
+  pub none_next : r ≡ [] → IsFirstFrom from (is_by_handle_here pid value) m None
+  none_next is = (
+    λ n y at high before. sym (shows n y at) ∙ part.5 is (pid, value, n) (within n high (below n y at)),
+    λ n none. absurd (none-some n none),
+  )
+
+  module _ (x : ℕ × ℕ × ℕ) (t : List (ℕ × ℕ × ℕ)) (is : r ≡ x ∷ t) where
+    first_in : IsInRange handle_cmp (Included (pid, value, from)) (Included (pid, value, NO_WAIT)) x
+    first_in = ((rw is at part).1).0
+
+    own_handle : (x.0 ≡ pid) × (x.1 ≡ value) × (from ≤ x.2)
+    own_handle = (
+      grind (arith, nat_tests, unsigned_tied pid x.0, unsigned_tied x.0 pid, unsigned_tied value x.1, unsigned_tied x.1 value, first_in.0, first_in.1),
+      grind (arith, nat_tests, unsigned_tied pid x.0, unsigned_tied x.0 pid, unsigned_tied value x.1, unsigned_tied x.1 value, first_in.0, first_in.1),
+      grind (arith, nat_tests, unsigned_tied pid x.0, unsigned_tied x.0 pid, unsigned_tied value x.1, unsigned_tied x.1 value, first_in.0, first_in.1),
+    )
+
+    pub next_is : IsFirstFrom from (is_by_handle_here pid value) m (Some x.2)
+    next_is = (
+      λ n y at high before. by_test n y at high before (is_by_handle_here pid value y) refl,
+      λ n same. subst (λ k. (from ≤ k) × (option_map (is_by_handle_here pid value) (wait_by m k) ≡ Some true)) (same_Some x.2 n same) (
+        own_handle.2,
+        found_passes pid value (wait_by m x.2) (sym (indexed pid value x.2)
+            ∙ (λ i. contains handle_cmp index (sym own_handle.0 i, sym own_handle.1 i, x.2)) ∙ ((rw is at part).1).1),
+      ),
+    )
+      where
+        by_test : (n : ℕ) (y : Watch) → wait_by m n ≡ Some y → from ≤ n → is_before n (Some x.2) ≡ true → (b : Bool) → is_by_handle_here pid value y ≡ b
+            → is_by_handle_here pid value y ≡ false
+        by_test n y at high before false fails = fails
+        by_test n y at high before true passes =
+            let least = (rw is at part).2 (pid, value, n) (within n high (below n y at)) (shows n y at ∙ passes) in
+            let behind : x.2 ≤ n =
+            grind (arith, nat_tests, unsigned_tied x.0 pid, unsigned_tied x.1 value, unsigned_tied x.2 n, own_handle.0, own_handle.1, least) in
+            absurd (omega (arith, ltb-true n x.2 before, behind))
+
+-- ---- no waits
+
+module _ (m : Numbered) (none : m.entries ≡ []) where
+  pub nothing_at : (n : ℕ) → wait_by m n ≡ None
+  nothing_at n = rw none refl
+
+  absent_at : (n : ℕ) (x : Watch) → wait_by m n ≡ Some x → ⊥
+  absent_at n x at = none-some x (sym (nothing_at n) ∙ at)
+
+  pub empty_below : AreBelow 0 m
+  empty_below n x at = absurd (absent_at n x at)
+
+  pub empty_none : NoneIsAt None m
+  empty_none p is n x at = absurd (absent_at n x at)
+
+  pub empty_firsts : AreFirsts (replicate 32 NO_WAIT) m
+  empty_firsts i inside = rw (get_or-replicate 32 i NO_WAIT 0 inside) ((λ n x at high before. absurd (absent_at n x at)), (λ n is. absurd (none-some n is)))
+
+  pub empty_indexed : (index : BTreeSet (ℕ × ℕ × ℕ)) → index.keys ≡ [] → AreIndexed index m
+  empty_indexed index empty pid value n = rw (empty, nothing_at n) refl

@@ -1,0 +1,78 @@
+-- The waits at an object by their numbers, and what leads to them. No public clause cites this module.
+use Rattle.std.specs.Prelude.{ℕ, ◌≡◌, ◌^◌, ◌-◌, ◌<◌, ◌≤◌, Bool, true, false, ◌==◌, nat_lt, List, slice_index, Option, Some, None, if◌then◌else◌}
+use Rattle.std.specs.BTreeMap.{BTreeMap, get}
+use Rattle.std.specs.BTreeSet.{BTreeSet, contains}
+use Rattle.std.specs.Option.{option_map}
+use Rattle.std.specs.Ordering.{nat_cmp, ordering_then}
+use Rattle.std.specs.declared.cmp.Ordering.{Ordering}
+use Rattle.zl_rights.specs.Numbers.{meets}
+use Rattle.zl_signals.specs.declared.watch.Watch.{Watch}
+use Rattle.zl_signals.specs.Waits.{is_at_port, is_by_handle_here}
+
+-- the waits by their numbers
+abbrev pub Numbered : Type 0
+Numbered = BTreeMap ℕ Watch
+
+-- the wait with the number n
+abbrev pub wait_by : Numbered → ℕ → Option Watch
+wait_by m n = get nat_cmp m n
+
+-- ---- the first that passes
+
+-- n stands before the number, if there is one
+abbrev pub is_before : ℕ → Option ℕ → Bool
+is_before n None = true
+is_before n (Some k) = nat_lt n k
+
+-- from the number `from` on, this is the number of the first wait that passes the test, if one does
+abbrev pub IsFirstFrom : ℕ → (Watch → Bool) → Numbered → Option ℕ → Type 0
+IsFirstFrom from p m o =
+    ((n : ℕ) (x : Watch) → wait_by m n ≡ Some x → from ≤ n → is_before n o ≡ true → p x ≡ false)
+    × ((n : ℕ) → o ≡ Some n → (from ≤ n) × (option_map p (wait_by m n) ≡ Some true))
+
+-- this is the number of the first wait that passes the test, if one does
+abbrev pub IsFirst : (Watch → Bool) → Numbered → Option ℕ → Type 0
+IsFirst p m o = IsFirstFrom 0 p m o
+
+-- ---- by signal
+
+-- the number that no wait has
+abbrev pub NO_WAIT : ℕ
+NO_WAIT = 2 ^ 64 - 1
+
+-- a number, where one stands there
+abbrev pub number_of : ℕ → Option ℕ
+number_of n = if n == NO_WAIT then None else Some n
+
+-- the wait is for a signal of this set
+abbrev pub is_for : ℕ → Watch → Bool
+is_for signals x = meets x.mask.0 signals
+
+-- of each signal this has the number of the first wait for it
+abbrev pub AreFirsts : List ℕ → Numbered → Type 0
+AreFirsts firsts m = (i : ℕ) → i < 32 → IsFirst (is_for (2 ^ i)) m (number_of (slice_index firsts i))
+
+-- ---- by handle
+
+-- the process, the value and the number in the order of the index
+abbrev pub handle_cmp : ℕ × ℕ × ℕ → ℕ × ℕ × ℕ → Ordering
+handle_cmp x y = ordering_then (ordering_then (nat_cmp x.0 y.0) (nat_cmp x.1 y.1)) (nat_cmp x.2 y.2)
+
+-- the wait was found, and the process made it by its handle of this value
+abbrev pub is_found_by : ℕ → ℕ → Option Watch → Bool
+is_found_by pid value None = false
+is_found_by pid value (Some x) = is_by_handle_here pid value x
+
+-- the index has just the numbers of the waits, by their handles
+abbrev pub AreIndexed : BTreeSet (ℕ × ℕ × ℕ) → Numbered → Type 0
+AreIndexed index m = (pid value n : ℕ) → contains handle_cmp index (pid, value, n) ≡ is_found_by pid value (wait_by m n)
+
+-- ---- each wait
+
+-- the numbers are below this
+abbrev pub AreBelow : ℕ → Numbered → Type 0
+AreBelow made m = (n : ℕ) (x : Watch) → wait_by m n ≡ Some x → n < made
+
+-- none of the waits gives its packet to this port
+abbrev pub NoneIsAt : Option ℕ → Numbered → Type 0
+NoneIsAt port m = (p : ℕ) → port ≡ Some p → (n : ℕ) (x : Watch) → wait_by m n ≡ Some x → is_at_port p x ≡ false

@@ -1,0 +1,97 @@
+//! Of each signal the number of the first wait for it.
+
+ghost use Rattle.std.specs.Prelude.{◌≡◌, ◌<◌, ◌^◌};
+ghost use Rattle.zl_signals.specs.Asked.{takes_out};
+ghost use Rattle.zl_signals.specs.Firsts.{AreMoved, AreNoted, IsLeast, IsMoved};
+ghost use Rattle.zl_signals.specs.Numbered.{is_for, number_of, AreBelow, IsFirstFrom, NO_WAIT};
+
+use crate::watch::{Asked, Watch};
+use bitflags::Flags;
+use std::collections::BTreeMap;
+use zl_rights::Signals;
+
+/// The number that no wait has.
+pub(crate) const NO_WAIT: u64 = u64::MAX;
+
+/// The number, if it is one.
+pub(crate) fn numbered(number: u64) -> Option<u64>
+    ensures { result ≡ number_of number }
+{
+    if number == NO_WAIT {
+        return None;
+    }
+    Some(number)
+}
+
+/// The least of the numbers that stand at the signals with these bits.
+pub(crate) fn least(firsts: &[u64; 32], active: u32) -> u64
+    ensures { IsLeast firsts.now active result }
+{
+    let mut least = NO_WAIT;
+    for place in 0..32 {
+        let first = firsts[place];
+        if active & signal_at(place).bits() != 0 && first < least {
+            least = first;
+        }
+    }
+    least
+}
+
+/// A wait with this number and this mask stands behind all others.
+pub(crate) fn note(firsts: &mut [u64; 32], mask: Signals, number: u64)
+    ensures { AreNoted mask.0 number firsts.old firsts.new }
+{
+    for place in 0..32 {
+        if firsts[place] == NO_WAIT && mask.intersects(signal_at(place)) {
+            firsts[place] = number;
+        }
+    }
+}
+
+/// The wait with this number is gone.
+pub(crate) fn move_on(firsts: &mut [u64; 32], waits: &BTreeMap<u64, Watch>, number: u64)
+    requires { AreBelow NO_WAIT waits.now }
+    ensures { AreMoved waits.now number firsts.old firsts.new }
+{
+    for place in 0..32 {
+        firsts[place] = moved(firsts[place], waits, signal_at(place), number);
+    }
+}
+
+/// The number of the first wait for a signal of these, where the wait with this number is gone.
+fn moved(first: u64, waits: &BTreeMap<u64, Watch>, signals: Signals, number: u64) -> u64
+    requires { AreBelow NO_WAIT waits.now }
+    ensures { IsMoved waits.now number signals.0 first result }
+{
+    if first != number {
+        return first;
+    }
+    first_for(waits, signals, number)
+}
+
+/// The number of the first wait for a signal of these, from the number `from` on, or none.
+fn first_for(waits: &BTreeMap<u64, Watch>, signals: Signals, from: u64) -> u64
+    requires { AreBelow NO_WAIT waits.now }
+    ensures { IsFirstFrom from (is_for signals.0) waits.now (number_of result) }
+{
+    match first_from(waits, from, &Asked::For(signals)) {
+        Some(number) => number,
+        None => NO_WAIT,
+    }
+}
+
+/// The number of the first wait that is asked for, from the number `from` on.
+pub(crate) fn first_from(waits: &BTreeMap<u64, Watch>, from: u64, asked: &Asked) -> Option<u64>
+    ensures { IsFirstFrom from (takes_out asked.now) waits.now result }
+{
+    let (number, _) = waits.range(from..).find(|(_, wait)| asked.takes(wait))?;
+    Some(*number)
+}
+
+/// The signal with the bit `place`.
+fn signal_at(place: usize) -> Signals
+    requires { place < 32 }
+    ensures { result.0 ≡ 2 ^ place }
+{
+    Signals::from_bits_retain(1 << place)
+}

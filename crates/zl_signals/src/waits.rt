@@ -1,0 +1,179 @@
+//! The waits at an object by their numbers, and what leads to them.
+
+ghost use Rattle.std.specs.Prelude.{ℕ, ◌≡◌, ◌≤◌, ◌-◌, ◌^◌, ◌++◌, ◌∷◌, ◌==◌, [], Bool, None, not, drop, filter, slice_get, option_map, if◌then◌else◌, IfErr, IfNone, IfSome, OnErr, OnOk};
+ghost use Rattle.std.proofs.Props.{props};
+ghost use Rattle.std.specs.BTreeMap.{values, IsOrdered};
+ghost use Rattle.std.specs.List.{find};
+ghost use Rattle.std.specs.Ordering.{nat_cmp};
+ghost use Rattle.zl_signals.specs.Numbered.{wait_by, AreBelow, AreFirsts, AreIndexed, IsFirst, IsFirstFrom, NoneIsAt};
+ghost use Rattle.zl_signals.specs.Waits.{is_at_port, is_by_handle_here, is_keyed_here, watch_holds, without_first};
+ghost use Rattle.zl_signals.specs.declared.watch.Watch.{Watch as WatchValue};
+
+use crate::firsts::{NO_WAIT, first_from, least, move_on, note, numbered};
+use crate::watch::{Asked, Watch};
+use bitflags::Flags;
+use std::alloc::{AllocFailed, Global};
+use std::collections::{BTreeMap, BTreeSet};
+use std::ops::Bound;
+use zl_rights::{HValue, Koid, Pid, Signals};
+
+/// The waits at an object. No look-up goes through all of them, but for those of a port.
+#[derive(Drop)]
+pub(crate) struct Waits {
+    // Each by its number: how many were registered here before it.
+    pub by_number: BTreeMap<u64, Watch>,
+    // The process and the value of its handle, and its number.
+    by_handle: BTreeSet<(Pid, HValue, u64)>,
+    // Of each signal, by its bit, the number of the first wait for it, or `NO_WAIT`. It moves on
+    // where that wait goes, and never back, so that a signal goes through each wait once at most.
+    firsts: [u64; 32],
+    // How many were registered here.
+    made: u64,
+    // None of the waits gives its packet to this port. A port that goes may have many waits here,
+    // each of which leads to `end_port`: those are gone through once.
+    ended: Option<Koid>,
+    ghost ordered: { IsOrdered nat_cmp by_number } by { Prim.hlevel props },
+    ghost few: { made ≤ 2 ^ 64 - 1 },
+    ghost below: { AreBelow made by_number },
+    ghost indexed: { AreIndexed by_handle by_number },
+    ghost first: { AreFirsts firsts by_number },
+    ghost none: { NoneIsAt ended by_number },
+}
+
+impl Waits {
+    /// No waits. It takes no memory.
+    pub fn new(alloc: Global) -> Waits
+        ensures { values result.by_number ≡ [] }
+    {
+        Waits {
+            by_number: BTreeMap::new(alloc),
+            by_handle: BTreeSet::new(alloc),
+            firsts: [NO_WAIT; 32],
+            made: 0,
+            ended: None,
+        }
+    }
+
+    /// Puts the wait behind all others. Where memory is refused, or no number is left, nothing
+    /// changes, and the wait comes back.
+    pub fn push(&mut self, watch: Watch) -> Result<(), AllocFailed<Watch>>
+        ensures ok { OnOk result
+            (values self.new.by_number ≡ values self.old.by_number ++ watch ∷ []) }
+        ensures unchanged { OnErr result (values self.new.by_number ≡ values self.old.by_number) }
+        ensures handed_back { IfErr result (λ refused. refused.value ≡ watch) }
+    {
+        let number = self.made;
+        if number == NO_WAIT {
+            return Err(AllocFailed { value: watch });
+        }
+        let entry = (watch.pid, watch.value, number);
+        if self.by_handle.insert(entry).is_err() {
+            return Err(AllocFailed { value: watch });
+        }
+        if self.by_number.insert(number, watch).is_err() {
+            self.by_handle.remove(&entry);
+            return Err(AllocFailed { value: watch });
+        }
+        note(&mut self.firsts, watch.mask, number);
+        self.made = number + 1;
+        self.ended = None;
+        Ok(())
+    }
+
+    /// The number of the first wait that holds.
+    pub fn first_holding(&self, active: Signals) -> Option<u64>
+        ensures { IsFirst (watch_holds active.0) self.now.by_number result }
+    {
+        numbered(least(&self.firsts, active.bits()))
+    }
+
+    /// The order of the first wait that holds.
+    pub fn next_order(&self, active: Signals) -> Option<u64>
+        ensures { result ≡ option_map (λ (x : WatchValue). x.order)
+            (find (watch_holds active.0) (values self.now.by_number)) }
+    {
+        let number = self.first_holding(active)?;
+        Some(self.by_number.get(&number)?.order)
+    }
+
+    /// The number of the first wait, from the number `from` on, that the process made by its handle
+    /// of this value.
+    pub fn next_by_handle(&self, pid: Pid, value: HValue, from: u64) -> Option<u64>
+        ensures { IsFirstFrom from (is_by_handle_here pid value) self.now.by_number result }
+    {
+        let (_, _, number) = self
+            .by_handle
+            .range((
+                Bound::Included((pid, value, from)),
+                Bound::Included((pid, value, NO_WAIT)),
+            ))
+            .next()?;
+        Some(*number)
+    }
+
+    /// The number of the first wait that the process made by its handle of this value, for a packet
+    /// with the key to the port.
+    pub fn first_keyed(&self, pid: Pid, value: HValue, port: Koid, key: u64) -> Option<u64>
+        ensures { IsFirst (is_keyed_here pid value port key) self.now.by_number result }
+    {
+        let mut from = 0;
+        while let Some(number) = self.next_by_handle(pid, value, from) {
+            let wait = self.by_number.get(&number)?;
+            if wait.port == port && wait.key == key {
+                return Some(number);
+            }
+            from = number + 1;
+        }
+        None
+    }
+
+    /// The number of the first wait that gives its packet to the port.
+    pub fn first_at_port(&self, port: Koid) -> Option<u64>
+        ensures { IsFirst (is_at_port port) self.now.by_number result }
+    {
+        first_from(&self.by_number, 0, &Asked::AtPort(port))
+    }
+
+    /// Takes out the wait with this number, if there is one.
+    pub fn take(&mut self, found: Option<u64>) -> Option<Watch>
+        ensures earliest { (p : WatchValue → Bool) → IsFirst p self.old.by_number found
+            → result ≡ find p (values self.old.by_number) }
+        ensures rest { (p : WatchValue → Bool) → IsFirst p self.old.by_number found
+            → values self.new.by_number ≡ without_first p (values self.old.by_number) }
+        ensures unchanged { IfNone result
+            (values self.new.by_number ≡ values self.old.by_number) }
+        ensures others { IfSome found (λ k. (n : ℕ) → wait_by self.new.by_number n
+            ≡ (if k == n then None else wait_by self.old.by_number n)) }
+    {
+        let number = found?;
+        let wait = self.by_number.remove(&number)?;
+        self.by_handle.remove(&(wait.pid, wait.value, number));
+        move_on(&mut self.firsts, &self.by_number, number);
+        Some(wait)
+    }
+
+    /// Takes out the wait with the least number.
+    pub fn take_earliest(&mut self) -> Option<Watch>
+        ensures first { result ≡ slice_get (values self.old.by_number) 0 }
+        ensures rest { values self.new.by_number ≡ drop 1 (values self.old.by_number) }
+    {
+        let found = first_from(&self.by_number, 0, &Asked::Any);
+        self.take(found)
+    }
+
+    /// Takes out all waits that give their packets to the port.
+    pub fn end_port(&mut self, port: Koid)
+        ensures { values self.new.by_number
+            ≡ filter (λ x. not (is_at_port port x)) (values self.old.by_number) }
+    {
+        if self.ended == Some(port) {
+            return;
+        }
+        let mut from = 0;
+        while let Some(number) = first_from(&self.by_number, from, &Asked::AtPort(port)) {
+            self.take(Some(number));
+            from = number + 1;
+        }
+        self.ended = Some(port);
+    }
+}

@@ -1,18 +1,18 @@
 -- What those at each koid wait for, taken together, as one joins a group or a group goes.
-use Rattle.zl_objects.proofs.Common.{All, Awaited, Bool, IsNonDecreasingBy, IsTrue, List, None, Option, Some, [], ap, arith, bit_and, bit_or}
-use Rattle.zl_objects.proofs.Common.{cases_Bool, cases_lt, cond, drop, eq-eqb, eqb-true, false, false≢true, find, get_or, if◌then◌else◌, inl, inr, insert, is_given, koid_of, length}
-use Rattle.zl_objects.proofs.Common.{max, meets, min, ne_eqb, not, or_parts, refl, remove, slice_get, subst, suc, sym, take, true}
+use Rattle.zl_objects.proofs.Common.{All, Awaited, Bool, IsNonDecreasingBy, IsPlace, List, Sleeper, None, Option, Some, [], ap, arith, bit_and, bit_or}
+use Rattle.zl_objects.proofs.Common.{cases_Bool, cases_lt, cond, drop, eq-eqb, eqb-true, false, false≢true, find, get_or, if◌then◌else◌, inl, inr, insert}
+use Rattle.zl_objects.proofs.Common.{is_given, koid_of, length, max, meets, min, ne_eqb, not, or_parts, refl, remove, slice_get, subst, suc, sym, take, true}
 use Rattle.zl_objects.proofs.Common.{zero, ℕ, ◌++◌, ◌+◌, ◌<◌, ◌==◌, ◌∙◌, ◌∷◌, ◌≡◌, ◌≢◌, ◌≤◌, ◌&&◌}
 use Rattle.std.specs.Int.{bit_at}
 use Rattle.std.specs.Prelude.{slice_set}
 use Rattle.std.proofs.lemmas.Nat.{le_or_l, le_or_r}
 use Rattle.std.proofs.lemmas.Nat.Bits.{same_from_bits, bit_at_and, bit_at_or}
-use Rattle.std.proofs.lemmas.List.{get_or-set_other, get_or-set_same, length-set}
+use Rattle.std.proofs.lemmas.List.{get_or_default}
 use Rattle.std.proofs.lemmas.List.Sorted.{IsNonDecreasingBy-insert}
 use Rattle.std.proofs.lemmas.Option.{slice_get-get_or, slice_get_within}
 use Rattle.zl_objects.specs.declared.awaited.Awaited.TheVariants as awaits
 use Rattle.zl_objects.specs.declared.groups.Group.{Group}
-use Rattle.zl_objects.specs.Groups.{Counts, IsGroupPlace, empty_group, group_at, is_group_at, joined, may_wake, sees, sees_found}
+use Rattle.zl_objects.specs.Groups.{Counts, Covers, IsGroupPlace, empty_group, group_at, is_group_at, joined, may_wake, sees, sees_found}
 
 -- ---- masks
 
@@ -24,7 +24,13 @@ both_masks signals a b = same_from_bits _ _ by_bit
   where
     by_bit : (i : ℕ) → bit_at (bit_and signals (bit_or a b)) i ≡ bit_at (bit_or (bit_and signals a) (bit_and signals b)) i
     by_bit i =
-        rw (bit_at_and signals (bit_or a b) i, bit_at_or a b i, bit_at_or (bit_and signals a) (bit_and signals b) i, bit_at_and signals a i, bit_at_and signals b i)
+        rw (
+          bit_at_and signals (bit_or a b) i,
+          bit_at_or a b i,
+          bit_at_or (bit_and signals a) (bit_and signals b) i,
+          bit_at_and signals a i,
+          bit_at_and signals b i,
+        )
         (spread (bit_at signals i) (bit_at a i) (bit_at b i))
 
 apart_is : (signals mask : ℕ) → meets signals mask ≡ false → bit_and signals mask ≡ 0
@@ -124,7 +130,7 @@ SeesMore list list2 j =
 same_sees : (list list2 : List Group) (j : ℕ) → group_at list2 j ≡ group_at list j → SeesMore list list2 j
 same_sees list list2 j same signals packets h = ap (sees_found signals packets) (sym same) ∙ h
 
-joined_koid : (a : Awaited) (g : Group) → (joined a g).koid ≡ g.koid
+pub joined_koid : (a : Awaited) (g : Group) → (joined a g).koid ≡ g.koid
 joined_koid (awaits.SignalOf k mask) g = refl
 joined_koid (awaits.PacketAt k) g = refl
 
@@ -155,28 +161,33 @@ module _ (k : ℕ) (list : List Group) (place : ℕ) (is : IsGroupPlace k list p
     gone_sees j apart = same_sees list (remove list place) j (gone_apart (λ x. x.koid == j) (empty_group 0) list place
         (ne_eqb _ j (λ same. false≢true (sym apart ∙ eq-eqb j k (sym same ∙ its_koid (empty_group 0))))))
 
+    -- another stands there in its place
+    module _ (y : Group) (its : y.koid ≡ k) where
+      set_found : group_at (slice_set list place y) k ≡ Some y
+      set_found = set_here (λ x. x.koid == k) y list place y inside (apart_before y) (eq-eqb _ k its)
+
+      set_other : (j : ℕ) → (j == k) ≡ false → SeesMore list (slice_set list place y) j
+      set_other j apart =
+          same_sees list (slice_set list place y) j (set_apart (λ x. x.koid == j) y list place y (other y its) (other (get_or list place y) (its_koid y)))
+        where
+          other : (x : Group) → x.koid ≡ k → (x.koid == j) ≡ false
+          other x is_k = ne_eqb _ j (λ same. false≢true (sym apart ∙ eq-eqb j k (sym same ∙ is_k)))
+
     -- one joins it
     module _ (a : Awaited) (g : Group) (was : g ≡ get_or list place g) where
-      joined_here : ((joined a g).koid == k) ≡ true
-      joined_here = eq-eqb _ k (joined_koid a g ∙ (ap (λ (x : Group). x.koid) was ∙ its_koid g))
-
-      joined_found : group_at (slice_set list place (joined a g)) k ≡ Some (joined a g)
-      joined_found = set_here (λ x. x.koid == k) g list place (joined a g) inside (apart_before g) joined_here
+      joined_its : (joined a g).koid ≡ k
+      joined_its = joined_koid a g ∙ (ap (λ (x : Group). x.koid) was ∙ its_koid g)
 
       set_one : (signals : ℕ) (packets : Bool) → sees_found signals packets (group_at (slice_set list place (joined a g)) k) ≡ false
           → is_given signals packets a ≡ false
-      set_one signals packets h = joined_one signals packets g a (rw joined_found at h)
+      set_one signals packets h = joined_one signals packets g a (rw (set_found (joined a g) joined_its) at h)
 
       set_sees : (j : ℕ) → SeesMore list (slice_set list place (joined a g)) j
       set_sees j = elim (cases_Bool (j == k)) as (λ _. SeesMore list (slice_set list place (joined a g)) j) [
         | inl same ↦ subst (SeesMore list (slice_set list place (joined a g))) (sym (eqb-true j k same)) (λ signals packets h.
-            rw (found g, ← was) (joined_more signals packets g a (rw joined_found at h)))
-        | inr apart ↦ same_sees list (slice_set list place (joined a g)) j (set_apart (λ x. x.koid == j) g list place (joined a g)
-            (other j apart (joined a g) (eqb-true _ k joined_here)) (other j apart (get_or list place g) (its_koid g)))
+            rw (found g, ← was) (joined_more signals packets g a (rw (set_found (joined a g) joined_its) at h)))
+        | inr apart ↦ set_other (joined a g) joined_its j apart
       ]
-        where
-          other : (i : ℕ) → (i == k) ≡ false → (x : Group) → x.koid ≡ k → (x.koid == i) ≡ false
-          other i apart x its = ne_eqb _ i (λ same. false≢true (sym apart ∙ eq-eqb i k (sym same ∙ its)))
 
   -- no group is at the koid
   module _ (out : is_group_at k (slice_get list place) ≡ false) (up : IsNonDecreasingBy (λ (x : Group). x.koid) list) where
@@ -244,6 +255,15 @@ module _ (crowded : Bool) (k : ℕ) (list : List Group) (place : ℕ) (is : IsGr
     pub gone_counts : (a : Awaited) → (koid_of a == k) ≡ false → Counts crowded list a → Counts crowded (remove list place) a
     gone_counts a apart = counts_more crowded list (remove list place) a (gone_sees k list place is here (koid_of a) apart)
 
+    -- the group is made anew
+    pub replaced_counts : (y : Group) → y.koid ≡ k → (a : Awaited) → Counts crowded list a → (koid_of a ≡ k → Covers y a)
+        → Counts crowded (slice_set list place y) a
+    replaced_counts y its a counts covers = elim (cases_Bool (koid_of a == k)) as (λ _. Counts crowded (slice_set list place y) a) [
+      | inl same ↦ counts_one crowded (slice_set list place y) a (rw (eqb-true (koid_of a) k same) (λ signals packets h.
+          covers (eqb-true (koid_of a) k same) signals packets (rw (set_found k list place is here y its) at h)))
+      | inr apart ↦ counts_more crowded list (slice_set list place y) a (set_other k list place is here y its (koid_of a) apart) counts
+    ]
+
     module _ (a : Awaited) (at_koid : k ≡ koid_of a) (g y : Group) (was : g ≡ get_or list place g) (joins : y ≡ joined a g) where
       pub set_counts : Counts crowded (slice_set list place y) a
       set_counts = rw joins (counts_one crowded (slice_set list place (joined a g)) a (rw (← at_koid) (set_one k list place is here a g was)))
@@ -262,3 +282,31 @@ module _ (crowded : Bool) (k : ℕ) (list : List Group) (place : ℕ) (is : IsGr
       pub put_others : (b : Awaited) → Counts crowded list b → Counts crowded list2 b
       put_others b counts =
           rw put (counts_more crowded list (insert list place (joined a (empty_group k))) b (put_sees k list place is out up a (koid_of b)) counts)
+
+-- ---- a walk over those at one koid
+
+-- those before the place that wait at the koid are in the group
+abbrev pub AreJoined : Group → ℕ → List Sleeper → ℕ → Type 0
+AreJoined g k list place = (i : ℕ) (d : Sleeper) → i < place → koid_of (get_or list i d).awaited ≡ k → Covers g (get_or list i d).awaited
+
+module _ (g : Group) (k : ℕ) (list : List Sleeper) (place : ℕ) where
+  pub none_joined : IsPlace (λ j. j < k) (λ j. k ≤ j) list place → AreJoined g k list place
+  none_joined is i d less here = absurd (omega (arith, here, is.before i d less))
+
+  module _ (are : AreJoined g k list place) where
+    pub one_joined : (x : Sleeper) → place < length list → x ≡ get_or list place x → AreJoined (joined x.awaited g) k list (place + 1)
+    one_joined x inside was i d less here signals packets h = elim (cases_lt i place) as (λ _. is_given signals packets (get_or list i d).awaited ≡ false) [
+      | inl before ↦ are i d before here signals packets (joined_more signals packets g x.awaited h)
+      | inr behind ↦
+          let same : place ≡ i = omega (arith, less, behind) in
+          subst (λ (n : ℕ). is_given signals packets (get_or list n d).awaited ≡ false) same
+          (subst (λ (y : Sleeper). is_given signals packets y.awaited ≡ false) (was ∙ get_or_default list place x d inside)
+          (joined_one signals packets g x.awaited h))
+    ]
+
+    pub all_joined : (end : ℕ) → IsPlace (λ j. j ≤ k) (λ j. k < j) list end → end ≤ place → (i : ℕ) (d : Sleeper) → i < length list
+        → koid_of (get_or list i d).awaited ≡ k → Covers g (get_or list i d).awaited
+    all_joined end ends past i d inside here = elim (cases_lt i place) as (λ _. Covers g (get_or list i d).awaited) [
+      | inl before ↦ are i d before here
+      | inr behind ↦ absurd (omega (arith, here, ends.behind i d (omega (arith, behind, past)) inside))
+    ]

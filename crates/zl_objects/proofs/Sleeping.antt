@@ -1,11 +1,10 @@
 -- Who is listed as blocked, as one is listed, or taken off the list as what it waits for is there.
 use Rattle.zl_objects.proofs.Common.{All, All-append, All-cons, All-drop, All-take, All-weaker, Awaited, Bool, Contains, Contains-append_cases}
 use Rattle.zl_objects.proofs.Common.{Contains-append_left, Contains-append_right, IsAtRest, IsCalm, IsFirstDue, IsListed, IsNonDecreasingBy, IsPlace, IsPut}
-use Rattle.zl_objects.proofs.Common.{IsTrue, IsUnlisted, List, ListsLast, Map, NoneDueAt, Object, Objects, Sleeper, Some, TakesDue, ap, arith, cases_Bool, drop}
-use Rattle.zl_objects.proofs.Common.{eq-eqb, eqb-true, false, false≢true, filter, filter-append, get, get_or, if◌then◌else◌, inl, inr, insert, is_due, is_for}
-use Rattle.zl_objects.proofs.Common.{has_packet, is_given, signals_at}
-use Rattle.zl_objects.proofs.Common.{koid_of, length, list_any, listed_for, ltb-false, ltb-true, map-append, refl, remove, slept, subst, suc, sym, take, true}
-use Rattle.zl_objects.proofs.Common.{update, zero, ℕ, ◌++◌, ◌+◌, ◌<◌, ◌==◌, ◌∙◌, ◌∷◌, ◌≡◌, ◌≤◌, ◌⊎◌, []}
+use Rattle.zl_objects.proofs.Common.{IsTrue, IsUnlisted, List, ListsLast, Map, NoneDueAt, Object, Objects, Sleeper, Some, TakesDue, ap, arith, cases_Bool}
+use Rattle.zl_objects.proofs.Common.{cases_lt, drop, eq-eqb, eqb-true, false, false≢true, filter, filter-append, get, get_or, if◌then◌else◌, inl, inr, insert}
+use Rattle.zl_objects.proofs.Common.{is_due, is_for, has_packet, is_given, signals_at, koid_of, length, list_any, listed_for, ltb-false, ltb-true, map-append}
+use Rattle.zl_objects.proofs.Common.{refl, remove, slept, subst, suc, sym, take, true, update, zero, ℕ, ◌++◌, ◌+◌, ◌<◌, ◌==◌, ◌∙◌, ◌∷◌, ◌≡◌, ◌≤◌, ◌⊎◌, []}
 use Rattle.std.proofs.lemmas.List.{append-nil, length-append, get_or_append_left, get_or-append-add, get_or-take, get_or_default}
 use Rattle.std.proofs.lemmas.List.{length-take, length-drop, get_or-drop, take-append-drop, drop_more}
 use Rattle.std.proofs.Math.Dec.{ltb}
@@ -50,6 +49,25 @@ module _ (test : Sleeper → Bool) (k : ℕ) (list : List Sleeper) where
       | inr more ↦ absurd (let high : place ≤ i = ltb-false i place more in omega (arith, here, ends.behind i d (omega (arith, high, past)) inside))
     ]
 
+    -- one more was looked at
+    pub look_more : (x : Sleeper) → place < length list → x ≡ get_or list place x → (koid_of x.awaited ≡ k → test x ≡ false)
+        → HasLooked test k list (place + 1)
+    look_more x inside was fails = record {
+      passed = λ i d less here. elim (cases_lt i place) as (λ _. test (get_or list i d) ≡ false) [
+        | inl before ↦ looked.passed i d before here
+        | inr behind ↦
+            let same : i ≡ place = omega (arith, less, behind) in
+            let is : get_or list i d ≡ x =
+            ap (λ (n : ℕ). get_or list n d) same ∙ (sym (get_or_default list place x d inside) ∙ sym was) in
+            ap test is ∙ fails (sym (ap (λ (s : Sleeper). koid_of s.awaited) is) ∙ here)
+      ];
+      above = λ i d more within. looked.above i d (omega (arith, more)) within;
+    }
+
+-- what one waits for isn't there
+pub not_due : (m : Map Object) (k : ℕ) (a : Awaited) → koid_of a ≡ k → is_given (signals_at m k) (has_packet (get m k)) a ≡ false → is_due m a ≡ false
+not_due m k a here fails = subst (λ (j : ℕ). is_given (signals_at m j) (has_packet (get m j)) a ≡ false) (sym here) fails
+
 -- the one at the place has what it waits for
 pub first_due : (m : Map Object) (k : ℕ) (list : List Sleeper) (place end : ℕ) → HasLooked (λ s. is_due m s.awaited) k list place
     → IsPlace (λ j. j ≤ k) (λ j. k < j) list end → place < end → (x : Sleeper) → x ≡ get_or list place x
@@ -90,7 +108,8 @@ module _ (s : Sleeper) (list : List Sleeper) (place : ℕ) (behind : IsPlace (λ
       (λ k d low. behind.before k d low) (λ k d high inside. let above = behind.behind k d high inside in omega (arith, above)))
   insert_in_order up false list2 is = rw is up
 
-  pub insert_all : (P : Sleeper → Type 0) → All P list → P s → (b : Bool) (list2 : List Sleeper) → list2 ≡ (if b then insert list place s else list) → All P list2
+  pub insert_all : (P : Sleeper → Type 0) → All P list → P s → (b : Bool) (list2 : List Sleeper)
+      → list2 ≡ (if b then insert list place s else list) → All P list2
   insert_all P all one true list2 is = rw is (All-append P (take place list) (s ∷ drop place list) (All-take P place list all)
       (All-cons P s (drop place list) one (All-drop P place list all)))
   insert_all P all one false list2 is = rw is all

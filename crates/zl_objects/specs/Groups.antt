@@ -23,6 +23,10 @@ joined (awaits.PacketAt port) g = record g { packets = true }
 abbrev pub sees : ℕ → Bool → Group → Bool
 sees signals packets g = meets signals g.masks || (packets && g.packets)
 
+-- who waits for this doesn't have it where nobody in the group may
+abbrev pub Covers : Group → Awaited → Type 0
+Covers g a = (signals : ℕ) (packets : Bool) → sees signals packets g ≡ false → is_given signals packets a ≡ false
+
 -- so it is in what was found
 abbrev pub sees_found : ℕ → Bool → Option Group → Bool
 sees_found signals packets None = false

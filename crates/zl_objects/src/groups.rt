@@ -4,7 +4,7 @@ ghost use Rattle.std.specs.Prelude.{◌≡◌, ◌==◌, false, slice_get};
 ghost use Rattle.std.specs.List.Sorted.{IsNonDecreasingBy};
 ghost use Rattle.zl_objects.specs.declared.awaited.Awaited.{Awaited as AwaitedValue};
 ghost use Rattle.zl_objects.specs.Awaited.{koid_of};
-ghost use Rattle.zl_objects.specs.Groups.{empty_group, is_group_at, joined, may_wake, sees, Counts, IsGroupPlace};
+ghost use Rattle.zl_objects.specs.Groups.{empty_group, is_group_at, joined, may_wake, sees, Counts, Covers, IsGroupPlace};
 
 use crate::awaited::Awaited;
 use std::alloc::{AllocError, Global};
@@ -22,7 +22,7 @@ pub(crate) struct Group {
 
 impl Group {
     /// Nobody waits there yet.
-    fn new(koid: Koid) -> Group
+    pub fn new(koid: Koid) -> Group
         ensures { result ≡ empty_group koid }
     {
         Group {
@@ -33,7 +33,7 @@ impl Group {
     }
 
     /// One more belongs to it, who waits for this.
-    fn join(self, awaited: &Awaited) -> Group
+    pub fn join(self, awaited: &Awaited) -> Group
         ensures { result ≡ joined awaited.now self }
     {
         let mut group = self;
@@ -109,6 +109,18 @@ impl Groups {
         let place = self.place_of(koid);
         if self.is_at(place, koid) {
             self.list.remove(place);
+        }
+    }
+
+    /// This group stands for those at its koid from now on, if there is one.
+    pub fn replace(&mut self, group: Group)
+        ensures { (a : AwaitedValue) → Counts self.old.crowded self.old.list.items a
+            → (koid_of a ≡ group.koid → Covers group a)
+            → Counts self.new.crowded self.new.list.items a }
+    {
+        let place = self.place_of(group.koid);
+        if self.is_at(place, group.koid) {
+            self.list[place] = group;
         }
     }
 

@@ -79,10 +79,11 @@ impl Objects {
     }
 
     /// Where that one stands.
-    fn due_place(&self) -> Option<usize>
-        ensures some { IfSome result (IsFirstDue self.now.objects self.now.sleepers) }
+    fn due_place(&mut self) -> Option<usize>
+        ensures some { IfSome result (IsFirstDue self.old.objects self.old.sleepers) }
         ensures none { IfNone result
-            (All (λ s. is_due self.now.objects s.awaited ≡ false) self.now.sleepers) }
+            (All (λ s. is_due self.old.objects s.awaited ≡ false) self.old.sleepers) }
+        ensures same { self.new ≡ self.old }
     {
         match self.marks.koids() {
             Some(koids) => self

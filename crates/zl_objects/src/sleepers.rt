@@ -12,7 +12,7 @@ ghost use Rattle.zl_objects.specs.Index.{IsIndexed};
 
 use crate::awaited::{Awaited, Sleeper};
 use crate::children::Children;
-use crate::groups::Groups;
+use crate::groups::{Group, Groups};
 use crate::object::Object;
 use crate::signals::signals_at;
 use bitflags::Flags;
@@ -132,42 +132,51 @@ impl Sleepers {
         false
     }
 
-    /// Where the first at the koid stands for which what it waits for is there.
+    /// Where the first at the koid stands for which what it waits for is there. Where all had to be
+    /// looked at, their group is made anew: it may have stood for others that are gone.
     fn due_at(
-        &self,
+        &mut self,
         by_koid: &BTreeMap<Koid, Object>,
         children: &Children,
         koid: Koid,
     ) -> Option<usize>
         requires { IsIndexed children.now by_koid.now.entries }
-        ensures some { IfSome result (IsFirstDue by_koid.now.entries self.now.list.items) }
-        ensures none { IfNone result (NoneDueAt by_koid.now.entries koid self.now.list.items) }
+        ensures some { IfSome result (IsFirstDue by_koid.now.entries self.old.list.items) }
+        ensures none { IfNone result (NoneDueAt by_koid.now.entries koid self.old.list.items) }
+        ensures list { self.new.list.items ≡ self.old.list.items }
+        ensures crowded { self.new.crowded ≡ self.old.crowded }
     {
         let signals = u64::from(signals_at(by_koid, children, koid).bits());
         let packets = has_packet(by_koid, koid);
         if !self.groups.may_wake(koid, signals, packets) {
             return None;
         }
+        let mut group = Group::new(koid);
         for place in self.place_of(koid)..self.place_behind(koid) {
-            if is_given(signals, packets, &self.list[place].awaited) {
+            let awaited = self.list[place].awaited;
+            if is_given(signals, packets, &awaited) {
                 return Some(place);
             }
+            group = group.join(&awaited);
         }
+        self.groups.replace(group);
         None
     }
 
     /// Where one stands for which what it waits for is there, the first at its koid, if there is one
     /// at these koids.
     pub fn due_among(
-        &self,
+        &mut self,
         by_koid: &BTreeMap<Koid, Object>,
         children: &Children,
         koids: &[Koid],
     ) -> Option<usize>
         requires { IsIndexed children.now by_koid.now.entries }
-        ensures some { IfSome result (IsFirstDue by_koid.now.entries self.now.list.items) }
+        ensures some { IfSome result (IsFirstDue by_koid.now.entries self.old.list.items) }
         ensures none { IfNone result
-            (All (λ k. NoneDueAt by_koid.now.entries k self.now.list.items) koids.now) }
+            (All (λ k. NoneDueAt by_koid.now.entries k self.old.list.items) koids.now) }
+        ensures list { self.new.list.items ≡ self.old.list.items }
+        ensures crowded { self.new.crowded ≡ self.old.crowded }
     {
         for koid in koids {
             if let Some(place) = self.due_at(by_koid, children, *koid) {

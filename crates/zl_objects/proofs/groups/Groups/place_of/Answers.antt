@@ -1,4 +1,4 @@
-use Rattle.zl_objects.proofs.Common.{IsPartitionedBy, List, arith, ltb-false, ltb-true, rules, subst, sym, ℕ, ◌<◌, ◌≤◌}
+use Rattle.zl_objects.proofs.Common.{IsPartitionedBy, List, arith, ltb-false, ltb-true, rules, subst, sym}
 use Rattle.std.proofs.Common.{ltb}
 use Rattle.std.proofs.lemmas.List.Sorted.{IsPartitionPoint-from_clause, IsPartitionedBy-ltb}
 use Rattle.zl_objects.specs.Groups.{IsGroupPlace}

@@ -10,7 +10,7 @@ invariant_of-self c = record {
 }
 
 pub returns-clause-some : goal.returns-clause-some
-returns-clause-some c = rw (← c.self.view_is)
+returns-clause-some c = rw (← c.due_place.ensures.same, ← c.self.view_is)
     (takes_due c.self.inside.by_koid.entries c.self.inside.sleepers.list.items c.in_ok-place.place
-    (rw (← c.self.view_is) at (c.in_ok-place.ensures {u = tt}).some) c.take.result c.take.ensures.value _ _ refl refl c.take.ensures.list
-    (rw c.take.ensures.crowded refl))
+    (rw (← c.due_place.ensures.same, ← c.self.view_is) at (c.in_ok-place.ensures {u = tt}).some)
+    c.take.result c.take.ensures.value _ _ refl refl c.take.ensures.list (rw c.take.ensures.crowded refl))

@@ -17,7 +17,7 @@ use std::collections::{BTreeMap, BTreeSet};
 use std::ops::Bound;
 use zl_rights::{HValue, Koid, Pid, Signals};
 
-/// The waits at an object. No look-up goes through all of them, but for those of a port.
+/// The waits at an object. No look-up goes through all of them, but for those of a port and by a key.
 #[derive(Drop)]
 pub(crate) struct Waits {
     // Each by its number: how many were registered here before it.
@@ -116,15 +116,13 @@ impl Waits {
     pub fn first_keyed(&self, pid: Pid, value: HValue, port: Koid, key: u64) -> Option<u64>
         ensures { IsFirst (is_keyed_here pid value port key) self.now.by_number result }
     {
-        let mut from = 0;
-        while let Some(number) = self.next_by_handle(pid, value, from) {
-            let wait = self.by_number.get(&number)?;
-            if wait.port == port && wait.key == key {
-                return Some(number);
-            }
-            from = number + 1;
-        }
-        None
+        let asked = Asked::Keyed {
+            pid,
+            value,
+            port,
+            key,
+        };
+        first_from(&self.by_number, 0, &asked)
     }
 
     /// The number of the first wait that gives its packet to the port.

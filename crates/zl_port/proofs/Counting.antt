@@ -1,5 +1,7 @@
 -- How counts by buckets follow what becomes of packets.
-use Rattle.zl_rights.proofs.Common.{◌≡◌, ℕ, ◌+◌, ◌<◌, ◌≤◌, Bool, true, false, not, List, [], ◌∷◌, ◌++◌, Option, Some, None, IfSome, length, filter, slice_index, and_parts, false≢true, ◌&&◌, replicate, refl, arith, nat_tests, eqb, eqb-true, sym, ap, ◌∙◌, length-append, cond, inl, inr}
+use Rattle.zl_rights.proofs.Common.{◌≡◌, ℕ, ◌+◌, ◌<◌, ◌≤◌, Bool, true, false, not, List, [], ◌∷◌, ◌++◌, Option, Some, None, IfSome, length, filter}
+use Rattle.zl_rights.proofs.Common.{slice_index, and_parts, false≢true, ◌&&◌, replicate, refl, arith, nat_tests, eqb, eqb-true, sym, ap, ◌∙◌}
+use Rattle.zl_rights.proofs.Common.{length-append, cond, inl, inr}
 use Rattle.std.specs.Prelude.{◌-◌}
 use Rattle.std.proofs.lemmas.Grind.{common_steps}
 use Rattle.std.proofs.lemmas.Bool.{cases_eq, ne_eqb, eq-eqb}

@@ -1,5 +1,6 @@
 -- How the packets of waits at a port are counted, by buckets. No public clause cites this module.
-use Rattle.std.specs.Prelude.{◌≡◌, ℕ, ◌+◌, ◌*◌, ◌/◌, ◌%◌, ◌^◌, Bool, false, ◌==◌, List, Option, Some, None, bit_xor, slice_index, slice_set, length, if◌then◌else◌}
+use Rattle.std.specs.Prelude.{◌≡◌, ℕ, ◌+◌, ◌*◌, ◌/◌, ◌%◌, ◌^◌, Bool, false, ◌==◌, List, Option, Some, None, bit_xor, slice_index, slice_set, length}
+use Rattle.std.specs.Prelude.{if◌then◌else◌}
 use Rattle.std.specs.List.{filter}
 use Rattle.zl_rights.specs.World.{Packet, Source}
 

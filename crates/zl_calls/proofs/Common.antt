@@ -61,6 +61,8 @@ pub use Rattle.zl_calls.specs.Started.{StepsAndTells, child_next, child_of, if_s
 pub use Rattle.zl_calls.specs.Steps.{Performs, StepsTo, TakesStep, takes_memory}
 pub use Rattle.zl_calls.specs.Sure.{CallsSurely, IsFaultless, IsSure, IsSureIfChecked, is_checked}
 pub use Rattle.zl_calls.specs.Taken.{AreKnown, IsKnown, IsNoted, NotesChild, NotesFor, NotesNext, NotesNextChild, NotesStarted, has_noted, is_end, is_gone}
+pub use Rattle.zl_calls.specs.Taken.{NotesNextTask, NotesTask}
+pub use Rattle.zl_calls.specs.Killed.{ListsTask, TellsKilled, task_next, task_of}
 pub use Rattle.zl_calls.specs.Taken.{is_over_by, keeps_handles}
 pub use Rattle.zl_calls.specs.Turns.{Stands}
 pub use Rattle.zl_calls.specs.Waking.{HaveCounters, Wakes, WakesOne, WakesSleeper, awake, destinations_of, given_awake, without_taken}

@@ -6,3 +6,4 @@ pub mod Entered
 pub mod EnteredTables
 pub mod TakenBy
 pub mod ChildBy
+pub mod TaskBy

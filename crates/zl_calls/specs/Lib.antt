@@ -6,6 +6,7 @@ pub mod Blocked
 pub mod Blocking
 pub mod Waking
 pub mod Woke
+pub mod Killed
 pub mod Acting
 pub mod Own
 pub mod Making

@@ -13,6 +13,8 @@ use Rattle.zl_rights.specs.declared.entry.Entry.{Entry}
 use Rattle.zl_objects.specs.Listed.{is_made_at}
 use Rattle.zl_objects.specs.Objects.{Objects}
 use Rattle.zl_calls.specs.Registered.{is_left}
+use Rattle.zl_objects.specs.Seen.{object_entry}
+use Rattle.zl_calls.specs.Killed.{ListsTask, task_of}
 use Rattle.zl_calls.specs.Started.{child_next, child_of, if_started}
 use Rattle.zl_calls.specs.World.{process_entry, stands_next, world_value}
 use Rattle.zl_calls.specs.declared.process.Process.{Process}
@@ -63,6 +65,15 @@ NotesChild name at entries t = name ≡ call.ProcessStart → IfSome at (λ s. c
 -- the same of the call which stands next, of this name
 abbrev pub NotesNextChild : Library → Process → CallName → Taken → Type 0
 NotesNextChild lib p name t = (at : Option Site) → stands_next lib p ≡ calls_at name at → NotesChild name at p.table.entries t
+
+-- the task is listed that the call of this name is to kill, if it kills
+abbrev pub NotesTask : CallName → Option Site → Map Entry → Objects → Taken → Type 0
+NotesTask name at entries r t = name ≡ call.TaskKill
+    → IfSome at (λ s. (task : ℕ) → task_of entries s.request ≡ Some task → ListsTask (map object_entry r.objects) task t.killed)
+
+-- the same of the call which stands next, of this name
+abbrev pub NotesNextTask : Library → Process → Objects → CallName → Taken → Type 0
+NotesNextTask lib p r name t = (at : Option Site) → stands_next lib p ≡ calls_at name at → NotesTask name at p.table.entries r t
 
 -- ---- behind it
 

@@ -77,8 +77,10 @@ abbrev pub WakesSleeper : Sleeper → Bool → List Process → Objects → List
 WakesSleeper s true ps r ps2 r2 = (awaited_found (get (map process_entry ps) s.pid) ≡ Some s.awaited) × WakesOne s.pid true ps r ps2 r2 × KeepSleepers r r2
 WakesSleeper s false ps r ps2 r2 = (awaited_found (get (map process_entry ps) s.pid) ≡ Some s.awaited → ⊥) × (ps2 ≡ ps) × (r2 ≡ r)
 
--- each blocked process had its turn, in the order of the list, and these woke, beside the one that was started; nobody is listed for whom what it waits for is there
-pub record Wakes (ps : List Process) (r : Objects) (blocked : List ℕ) (started : Option ℕ) (w : Woke) (ps2 : List Process) (r2 : Objects) (blocked2 : List ℕ) : Type 0 where
+-- each blocked process had its turn, in the order of the list, and these woke, beside the one that was started;
+-- nobody is listed for whom what it waits for is there
+pub record Wakes (ps : List Process) (r : Objects) (blocked : List ℕ) (started : Option ℕ) (w : Woke) (ps2 : List Process) (r2 : Objects)
+    (blocked2 : List ℕ) : Type 0 where
   pub wakes : world_blocked ps2 r2 blocked2 ≡ fold woken (world_blocked ps r blocked) blocked
   pub consistent : IsConsistent ps2 r2
   pub list : AreBlocked ps2 blocked2

@@ -20,6 +20,6 @@ mod waits;
 mod waking;
 mod world;
 
-pub use waking::{WokeList, Woke};
+pub use waking::{Told, Woke, WokeList};
 pub use world::{Local, World};
 pub use zl_code::{Boot, BootFault, CallName, Outcome, ProcState, TraceItem};

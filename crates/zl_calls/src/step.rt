@@ -1,7 +1,7 @@
 //! The step of one process: who stands where, what stands next for it, what it then does, and what is
 //! behind it.
 
-ghost use Rattle.std.specs.Prelude.{◌≡◌, ◌≢◌, ◌<◌, ◌≤◌, not, true, false, None, length, map, slice_get, vec_capacity, IsTrue, IfSome, IfNone, OnSome};
+ghost use Rattle.std.specs.Prelude.{◌≡◌, ◌≢◌, ◌<◌, ◌≤◌, not, true, false, None, Some, length, map, slice_get, vec_capacity, IsTrue, IfSome, IfNone, OnSome};
 ghost use Rattle.zl_rights.specs.Map.{get};
 ghost use Rattle.zl_objects.specs.Awaited.{KeepSleepers};
 ghost use Rattle.zl_code.specs.Request.{site_of};
@@ -15,7 +15,8 @@ ghost use Rattle.zl_calls.specs.Blocked.{AreBlocked, AreLeft};
 ghost use Rattle.zl_calls.specs.Blocking.{then_blocked};
 ghost use Rattle.zl_calls.specs.Consistent.{IsConsistent};
 ghost use Rattle.zl_calls.specs.Registered.{EndsUnheld};
-ghost use Rattle.zl_calls.specs.Taken.{NotesChild, NotesFor, NotesNext, NotesNextChild, NotesStarted};
+ghost use Rattle.zl_calls.specs.Killed.{TellsKilled};
+ghost use Rattle.zl_calls.specs.Taken.{NotesChild, NotesFor, NotesNext, NotesNextChild, NotesNextTask, NotesStarted, NotesTask};
 ghost use Rattle.zl_calls.specs.Sure.{IsSureIfChecked, is_checked};
 ghost use Rattle.zl_code.specs.Sound.{IsSound};
 ghost use Rattle.zl_verify.specs.Covered.{IsCovered, IsVerified};
@@ -30,7 +31,7 @@ use crate::parts::{do_call, do_sure};
 use crate::process::Process;
 use crate::processes::Processes;
 use crate::step::leaving::leave;
-use crate::step::taken::{Taken, is_start};
+use crate::step::taken::{Taken, is_kill, is_start};
 use crate::waits::end_behind;
 use std::alloc::Global;
 use zl_code::{CallInstr, CallName, Outcome, TraceItem};
@@ -107,6 +108,8 @@ pub fn act_for(
     ensures asleep { IfSome result (λ item. KeepSleepers objects.old objects.new) }
     ensures child { IfSome result (λ item. NotesStarted library.now
         (world_in processes.old objects.old blocked.old) pid item taken.new) }
+    ensures task { IfSome result (λ item. TellsKilled library.now
+        (world_in processes.old objects.old blocked.old) pid (Some taken.new.killed)) }
     ensures consistent { IsConsistent processes.new.list.items objects.new }
     ensures room { length processes.new.list.items ≤ vec_capacity blocked.new }
     ensures not_ready { IfNone result
@@ -173,6 +176,8 @@ fn call_next(
         NotesNext library.now caller objects.old taken.new)) }
     ensures child { IfSome result (λ done. AtPlace processes.old place (λ caller.
         NotesNextChild library.now caller done.0 taken.new)) }
+    ensures task { IfSome result (λ done. AtPlace processes.old place (λ caller.
+        NotesNextTask library.now caller objects.old done.0 taken.new)) }
     ensures room { KeepsRoom processes.old blocked.old processes.new blocked.new }
     ensures missing { IfNone result (AtPlace processes.old place (λ caller.
         call_here (stands_next library.now caller) ≡ None)) }
@@ -196,20 +201,27 @@ fn call_next(
     Some((call.name, outcome))
 }
 
-/// Notes the handles that the call takes, where waits are registered, and the process that it is to
-/// start.
+/// Notes the handles that the call takes, where waits are registered, the process that it is to start,
+/// and the task that it is to kill.
 #[inline(always)]
-fn note_taken(taken: &mut Taken, process: &Process, objects: &Objects, call: &CallInstr)
-    ensures taken { IsTrue (not (is_empty objects.now.waits))
+fn note_taken(taken: &mut Taken, process: &Process, objects: &mut Objects, call: &CallInstr)
+    ensures taken { IsTrue (not (is_empty objects.old.waits))
         → NotesFor (site_of call.now process.now.cpu) process.now.table.entries taken.new }
     ensures child { NotesChild call.now.name (site_of call.now process.now.cpu)
         process.now.table.entries taken.new }
+    ensures task { NotesTask call.now.name (site_of call.now process.now.cpu)
+        process.now.table.entries objects.old taken.new }
+    ensures unchanged { objects.new ≡ objects.old }
 {
     if objects.has_waits() {
         taken.note_call(process, call);
     }
     if is_start(call.name) {
         taken.note_child(process, call);
+        return;
+    }
+    if is_kill(call.name) {
+        taken.note_task(process, objects, call);
     }
 }
 

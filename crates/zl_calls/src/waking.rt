@@ -26,7 +26,7 @@ use crate::process::{Process, Registers, State};
 use crate::processes::Processes;
 use bitflags::Flags;
 use zl_code::{Outcome, TraceItem};
-use zl_objects::{Awaited, Objects, Sleeper};
+use zl_objects::{Awaited, Objects, Sleeper, TaskList};
 use zl_rights::{Koid, Pid};
 
 /// Who became ready behind a step, but for its process: those that woke, and the one that it started.
@@ -54,6 +54,17 @@ impl Woke {
             None => Woke::Nobody,
         }
     }
+}
+
+/// What a step tells of others than its process.
+///
+/// Source: own profile.
+#[derive(Drop)]
+pub struct Told {
+    /// Who became ready.
+    pub woke: Woke,
+    /// Whom a kill may have killed, and perhaps others; nothing where nobody was killed.
+    pub killed: Option<TaskList>,
 }
 
 /// A list of processes that became ready.

@@ -15,13 +15,14 @@ ghost use Rattle.zl_calls.specs.Steps.{Performs, StepsTo, local_item, takes_memo
 ghost use Rattle.zl_calls.specs.Own.{StepsOwn};
 ghost use Rattle.zl_calls.specs.Turns.{Fits, IsTurn, advanced, steps_done};
 ghost use Rattle.zl_calls.specs.Started.{StepsAndTells};
+ghost use Rattle.zl_calls.specs.Killed.{TellsKilled};
 
 use crate::boot::{Made, booted};
 use crate::processes::Processes;
 use crate::step::taken::Taken;
 use crate::step::{act_for, is_local, next_name};
 use crate::waits::fire_waits;
-use crate::waking::{Woke, add_blocked, fall_asleep, wake};
+use crate::waking::{Told, Woke, add_blocked, fall_asleep, wake};
 use std::alloc::{AllocError, Global};
 use std::marker::Model;
 use zl_code::{Boot, BootCause, BootFault, CallName, Image, Outcome, ProcState, TraceItem};
@@ -207,7 +208,8 @@ impl World {
     /// their handles, those that hold fire in the order of registration, and blocked processes wake in
     /// the order in which they blocked; behind a local instruction, and where nothing waits at an
     /// object that the call touched, there are none. It tells the item of the step, and who became ready
-    /// but for the process: whom it started by a `process_start` that is answered OK, and who woke.
+    /// but for the process: whom it started by a `process_start` that is answered OK, and who woke; and behind a kill, whom
+    /// that may have killed.
     ///
     /// It is the step that the lab itself does, so each new handle gets the value that comes next; but
     /// not where memory was wanted.
@@ -216,8 +218,10 @@ impl World {
     /// Source: that of `perform` and `local`.
     // A run along a schedule calls it for each turn.
     #[inline(always)]
-    pub fn step(&mut self, pid: Pid) -> Option<(TraceItem, Woke)>
-        ensures ran { IfSome result (λ did. StepsAndTells self.old pid self.new did.0 did.1) }
+    pub fn step(&mut self, pid: Pid) -> Option<(TraceItem, Told)>
+        ensures ran { IfSome result (λ did. StepsAndTells self.old pid self.new did.0 did.1.woke) }
+        ensures killed { IfSome result (λ did. TellsKilled self.old.programs self.old.world pid
+            did.1.killed) }
         ensures own { IfSome result (λ did. StepsOwn self.old.programs (own_here self.old) pid
             did.0 (own_here self.new)) }
         ensures not_ready { IfNone result (is_ready_in self.old pid ≡ false) }
@@ -233,13 +237,19 @@ impl World {
             pid,
         )?;
         if is_local(&item) {
-            return Some((item, Woke::Nobody));
+            let told = Told {
+                woke: Woke::Nobody,
+                killed: None,
+            };
+            return Some((item, told));
         }
         add_blocked(&mut self.blocked, pid, &item);
         fall_asleep(&self.processes, &mut self.objects, pid, &item);
         let started = self.taken.started_by(&item);
+        let killed = self.taken.killed_by(&item);
         if self.objects.is_quiet() {
-            return Some((item, Woke::of(started)));
+            let woke = Woke::of(started);
+            return Some((item, Told { woke, killed }));
         }
         fire_waits(&self.processes, &mut self.objects);
         let woke = wake(
@@ -249,15 +259,20 @@ impl World {
             started,
         );
         self.objects.calm();
-        Some((item, woke))
+        Some((item, Told { woke, killed }))
     }
 
-    /// Keeps the room of the list of who became ready for the next one.
-    pub fn put_back(&mut self, woke: Woke)
+    /// Keeps the room of the lists in what a step told for the next ones.
+    #[inline(always)]
+    pub fn put_back(&mut self, told: Told)
         ensures { self.new ≡ self.old }
     {
-        if let Woke::Several(woken) = woke {
-            self.objects.return_list(woken.pids);
+        let Told { woke, killed } = told;
+        if let Some(list) = killed {
+            self.objects.return_told(list);
+        }
+        if let Woke::Several(list) = woke {
+            self.objects.return_list(list.pids);
         }
     }
 
@@ -276,10 +291,10 @@ impl World {
         ensures no_memory { result ≡ Outcome.Answered Status.NoMemory
             → IfSome (call_for self.old pid) (λ call. IsTrue (takes_memory call)) }
     {
-        let Some((item, woke)) = self.step(pid) else {
+        let Some((item, told)) = self.step(pid) else {
             unreachable!()
         };
-        self.put_back(woke);
+        self.put_back(told);
         match item {
             TraceItem::Call { outcome, .. } => outcome,
             TraceItem::Run { .. } => unreachable!(),
@@ -296,10 +311,10 @@ impl World {
         requires no_call { call_for self.old pid ≡ None }
         ensures { StepsTo self.old (local_item pid result) self.new }
     {
-        let Some((item, woke)) = self.step(pid) else {
+        let Some((item, told)) = self.step(pid) else {
             unreachable!()
         };
-        self.put_back(woke);
+        self.put_back(told);
         match item {
             TraceItem::Run { .. } => Local::Ran,
             TraceItem::Stuck { .. } => Local::Stuck,

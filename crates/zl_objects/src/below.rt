@@ -1,6 +1,6 @@
 //! A task and what stands below it, listed without a look at all objects and without memory.
 
-ghost use Rattle.std.specs.Prelude.{[], ℕ, ◌≡◌, true, IsTrue};
+ghost use Rattle.std.specs.Prelude.{[], ℕ, ◌≡◌, ◌==◌, false, true, IsTrue};
 ghost use Rattle.zl_objects.specs.Below.{is_one_of, HasBelow, HasTask};
 ghost use Rattle.zl_objects.specs.Index.{IsIndexed};
 
@@ -33,6 +33,33 @@ impl Objects {
         let mut list = std::mem::replace(&mut self.below, none);
         list.clear();
         list
+    }
+
+    /// Lists the task and what stands below it, and perhaps others, for who has to know whom a kill may
+    /// kill. It takes no memory, and the list is to be given to `return_told`: where another was not, or
+    /// there is too little room, it isn't whole.
+    ///
+    /// Source: own profile.
+    pub fn list_told(&mut self, task: Koid) -> TaskList
+        ensures koid { result.whole ≡ true → (task == 0) ≡ false }
+        ensures task { result.whole ≡ true
+            → HasTask self.old.objects task result.koids.items }
+        ensures unchanged { self.new ≡ self.old }
+    {
+        let none = Vec::new(*self.told.allocator());
+        let mut koids = std::mem::replace(&mut self.told, none);
+        // 0 is no koid.
+        let whole = task != 0 && list_task(&self.by_koid, &self.children, &mut koids, task);
+        TaskList { koids, whole }
+    }
+
+    /// Keeps the room of that list for the next one.
+    ///
+    /// Source: own profile.
+    pub fn return_told(&mut self, list: TaskList)
+        ensures { self.new ≡ self.old }
+    {
+        self.told = list.koids;
     }
 
     /// Keeps the room of the list for the next one.

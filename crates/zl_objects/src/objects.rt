@@ -43,6 +43,8 @@ pub struct Objects {
     pub(crate) sleepers: Sleepers,
     // At all other objects nothing is due.
     pub(crate) marks: Marks,
+    // Whom a kill may have killed, as it is told. There is room for each job and process, and one more.
+    pub(crate) told: Vec<Koid>,
 }
 
 impl Model for Objects {
@@ -88,6 +90,7 @@ impl Objects {
             waits: WaitList::new(alloc),
             sleepers: Sleepers::new(alloc)?,
             marks: Marks::new(alloc)?,
+            told: Vec::new(alloc),
         };
         objects.create(Body::Job(Job::root()), 0)?;
         Ok(objects)
@@ -133,6 +136,7 @@ impl Objects {
     {
         let count = self.by_koid.len() + 1;
         make_room(&mut self.dying, &mut self.below, count)?;
+        make_room_for_list(&mut self.told, count)?;
         self.sleepers
             .make_room_if(matches!(body, Body::Process { .. }), count)?;
         let koid = self.next_koid;
@@ -405,8 +409,13 @@ fn make_room(dying: &mut Vec<Koid>, below: &mut Vec<Koid>, count: usize) -> Resu
     ensures capacity { vec_capacity dying.old ≤ vec_capacity dying.new }
 {
     dying.reserve(count)?;
-    below.clear();
-    below.reserve(count.saturating_add(1))
+    make_room_for_list(below, count)
+}
+
+/// Makes room for so many koids, and one more, in a list that is empty then.
+fn make_room_for_list(list: &mut Vec<Koid>, count: usize) -> Result<(), AllocError> {
+    list.clear();
+    list.reserve(count.saturating_add(1))
 }
 
 /// An end at which nothing is to be read, and which so many handles name.

@@ -26,7 +26,10 @@ pub use Rattle.zl_calls.proofs.Above.{asked_next, done, none_filtered, removed_o
 pub use Rattle.zl_calls.specs.Started.{Tells, child_next, child_of, if_started, is_ok, is_start, tells_start}
 pub use Rattle.zl_calls.specs.Steps.{TakesStep}
 pub use Rattle.zl_calls.specs.Turns.{advanced}
+pub use Rattle.zl_calls.specs.Killed.{TellsKilled, task_next, task_of}
 pub use Rattle.zl_calls.specs.Woke.{AreParted, pids_told, tells_all}
+pub use Rattle.zl_calls.specs.declared.waking.Told.{Told}
+pub use Rattle.zl_objects.specs.Below.{is_one_of}
 pub use Rattle.zl_calls.specs.World.{Machine, is_ready_in, seen_in, seen_of, state_in}
 pub use Rattle.zl_calls.specs.declared.waking.Woke.{Woke}
 pub use Rattle.zl_code.proofs.Changes.{times-other, times-same}
@@ -44,8 +47,9 @@ pub use Rattle.zl_rights.specs.declared.entry.Entry.{Entry}
 pub use Rattle.zl_rights.specs.declared.status.Status.{Status}
 pub use Rattle.zl_sched.specs.Follows.{EndsBy, Follows, StopsBefore, goes, halts, skips, turns_of}
 pub use Rattle.zl_sched.specs.HandIn.{Accepts, Changes, Ends, EndsFrom, GoesFrom, HasRoom, IsAwaited, is_more, put_back, run_items, unmarked}
-pub use Rattle.zl_sched.specs.Queueing.{AreJoining, IsTold, change_of, few_if, is_nobody, joined_by, joining, joins, leaves_others, leaves_ready, may_kill}
-pub use Rattle.zl_sched.specs.Queueing.{one_if, requeued}
+pub use Rattle.zl_sched.specs.Queueing.{AreJoining, IsTold, LeaveTold, change_of, few_if, is_nobody, joined_by, joining, joins, leaves_others}
+pub use Rattle.zl_sched.specs.Queueing.{leaves_ready, may_kill}
+pub use Rattle.zl_sched.specs.Queueing.{one_if, requeued, without_ended}
 pub use Rattle.zl_sched.specs.Ready.{Listed, became_ready, is_in, is_ready_or_over, itself_ready, others_of, pids_of, queued_after, ready_by_koid, still_ready}
 pub use Rattle.zl_sched.specs.Ready.{times_in}
 pub use Rattle.zl_sched.specs.System.{Adds, HasBooted, IsLegal, IsWhole, RunsHere, System, Turns, Walks, may_step, room_of}

@@ -14,6 +14,8 @@ use Rattle.zl_sched.proofs.Legal.{history_then, nothing_legal, own_item, own_run
 use Rattle.zl_sched.proofs.MarksKept.{state_kept, place_still}
 use Rattle.zl_sched.proofs.MarksMoved.{OthersStay, others_left, step_stays, local_stays, stays_then, before, after_listed, after_room, not_listed, takes_listed}
 use Rattle.zl_sched.proofs.MarksMoved.{forgets_listed, puts_back_listed}
+use Rattle.zl_sched.proofs.Common.{TellsKilled}
+use Rattle.zl_sched.proofs.Marked.{listed_once}
 use Rattle.zl_sched.proofs.Queued.{Before, requeued_is, told}
 
 -- ---- the list and the marks alone change
@@ -85,9 +87,10 @@ ends_changed : (more : Bool) (m : Machine) (p : ℕ) (last : List TraceItem) (m2
     → is_process m.world is_ready p ≡ true → Changes more m p last m2 ends c → IsChanged m.world p m2.world c
 ends_changed true m p last m2 (none, same) c sound ready is =
     rw is (subst (λ (x : Machine). IsChanged m.world p x.world change.Nobody) (sym same) (unchanged m.world p ready))
-ends_changed false m p last m2 (x, is, taken, own) c sound ready (who, tells, told) =
+ends_changed false m p last m2 (x, is, taken, own) c sound ready (who, tells, killed, told) =
     rw told (subst (λ (k : ℕ). IsChanged m.world k m2.world (change_of x who)) taken.pid_is
-    (changed m.programs m.world (pid_of x) x m2.world sound taken.steps.step who tells))
+    (changed m.programs m.world (pid_of x) x m2.world sound taken.steps.step who tells
+    (subst (λ (k : ℕ). TellsKilled m.programs m.world k who.killed) (sym taken.pid_is) killed)))
 
 pub run_length : (p n : ℕ) → length (run_items p n) ≡ (if n == 0 then 0 else 1)
 run_length p n = by (n == 0)
@@ -144,6 +147,9 @@ module _ (s : System) (whole : IsWhole s) (d : Done) (awaited : IsAwaited s d) (
 
   pub requeued_room : length (requeued m2.world d.pid left s.ready) ≤ length s.machine.world.processes
   requeued_room = subst (λ (ys : List ℕ). length ys ≤ length s.machine.world.processes) (sym requeued_so) (omega (arith, accepted_room))
+
+  pub each_once : (k : ℕ) → times_in k s.ready ≤ 1
+  each_once = listed_once s.machine.world s.ready s.out whole.listed
 
   pub absent : times_in d.pid s.ready ≡ 0
   absent = not_listed s.machine.world s.ready s.out whole.listed d.pid awaited.out awaited.ready

@@ -6,7 +6,12 @@ use Rattle.std.proofs.lemmas.List.Sorted.{sum_by-IsPermutation}
 use Rattle.std.proofs.lemmas.List.Sums.{length-filter}
 use Rattle.std.specs.List.Sorted.{IsNonDecreasing, IsPermutation}
 use Rattle.zl_calls.proofs.lists.Positions.{times-filter}
-use Rattle.zl_sched.proofs.Queued.{filtered_more, fewer_first}
+use Rattle.zl_sched.proofs.Common.{cases_Bool, eqb-true, false≢true, get_or, inl, inr, is_one_of, take_more, without_ended, ◌&&◌, ◌<◌}
+use Rattle.std.specs.Prelude.{◌||◌}
+use Rattle.std.proofs.lemmas.List.Folds.{list_any-append}
+use Rattle.zl_verify.proofs.OwnTable.{other_way}
+use Rattle.zl_sched.proofs.Common.{Bool, eq-eqb, subst}
+use Rattle.zl_sched.proofs.Queued.{both_filters, filtered_more, fewer_first}
 use Rattle.zl_sched.proofs.Rising.{IsRising, filter_rises, keys_rise, same_rising, sorted_rises}
 
 -- those that were there stay in front
@@ -71,3 +76,80 @@ several_join p list sorted joining moved in_order same rises =
 -- those that join stand in the order of their koids
 pub joining_rises : (w : World) (p : ℕ) (out stayed : List ℕ) → IsTrue (is_sorted nat_cmp w.processes) → IsRising (joining w p out stayed)
 joining_rises w p out stayed sorted = filter_rises (λ q. joins w p out stayed q) (pids_of w) (keys_rise w.processes sorted)
+
+-- ---- those that a kill ended leave one after another
+
+same_eqb : (k q : ℕ) → (k == q) ≡ (q == k)
+same_eqb k q = elim (cases_Bool (k == q)) as (λ _. (k == q) ≡ (q == k)) [
+  | inl here ↦ here ∙ sym (eq-eqb q k (sym (eqb-true k q here)))
+  | inr apart ↦ apart ∙ sym (other_way k q apart)
+]
+
+module _ (w : World) (ks : List ℕ) (i k : ℕ) (within : i < length ks) (at : get_or ks i 0 ≡ k) (list : List ℕ) where
+  one_more_of : (q : ℕ) → is_one_of q (take (i + 1) ks) ≡ (is_one_of q (take i ks) || (k == q))
+  one_more_of q = ap (is_one_of q) (take_more ks i 0 within)
+      ∙ (list_any-append (λ x. x == q) (take i ks) (get_or ks i 0 ∷ []) ∙ ap (λ (b : Bool). is_one_of q (take i ks) || b) (alone (get_or ks i 0 == q)
+      ∙ ap (λ (j : ℕ). j == q) at))
+    where
+      alone : (b : Bool) → (b || false) ≡ b
+      alone true = refl
+      alone false = refl
+
+  -- k isn't ready, and leaves
+  pub one_leaves : is_process w is_ready k ≡ false → filter (λ q. not (q == k)) (without_ended w (take i ks) list) ≡ without_ended w (take (i + 1) ks) list
+  one_leaves over = both_filters _ _ list ∙ (λ j. filter (λ q. sym (agrees q) j) list)
+    where
+      by_tests : (before same now : Bool) → (same ≡ true → now ≡ false) → not ((before || same) && not now) ≡ (not (before && not now) && not same)
+      by_tests before true false now = by before
+        where
+          by : (b : Bool) → not ((b || true) && true) ≡ (not (b && true) && false)
+          by true = refl
+          by false = refl
+      by_tests before true true now = absurd (false≢true (sym (now refl)))
+      by_tests true false now h = by now
+        where
+          by : (b : Bool) → not (true && not b) ≡ (not (true && not b) && true)
+          by true = refl
+          by false = refl
+      by_tests false false now h = refl
+
+      agrees : (q : ℕ) → not (is_one_of q (take (i + 1) ks) && not (is_process w is_ready q))
+          ≡ (not (is_one_of q (take i ks) && not (is_process w is_ready q)) && not (q == k))
+      agrees q = rw (one_more_of q, same_eqb k q) (by_tests (is_one_of q (take i ks)) (q == k) (is_process w is_ready q)
+          (λ here. ap (λ (j : ℕ). is_process w is_ready j) (eqb-true q k here) ∙ over))
+
+  -- k is ready, and stays
+  pub one_stays : is_process w is_ready k ≡ true → without_ended w (take i ks) list ≡ without_ended w (take (i + 1) ks) list
+  one_stays now = λ j. filter (λ q. sym (agrees q) j) list
+    where
+      by_tests : (before same ready : Bool) → (same ≡ true → ready ≡ true) → not ((before || same) && not ready) ≡ not (before && not ready)
+      by_tests true same ready h = refl
+      by_tests false true true h = refl
+      by_tests false true false h = absurd (false≢true (h refl))
+      by_tests false false ready h = refl
+
+      agrees : (q : ℕ) → not (is_one_of q (take (i + 1) ks) && not (is_process w is_ready q)) ≡ not (is_one_of q (take i ks) && not (is_process w is_ready q))
+      agrees q = rw (one_more_of q) (by_tests (is_one_of q (take i ks)) (k == q) (is_process w is_ready q)
+          (λ here. ap (λ (j : ℕ). is_process w is_ready j) (sym (eqb-true k q here)) ∙ now))
+
+-- nobody is listed
+pub none_leaves : (w : World) (list : List ℕ) → without_ended w [] list ≡ list
+none_leaves w [] = refl
+none_leaves w (x ∷ list) = ap (λ (xs : List ℕ). x ∷ xs) (none_leaves w list)
+
+-- what stood once at most does so among those that are left
+pub still_once : (w : World) (ks list : List ℕ) → ((k : ℕ) → times_in k list ≤ 1) → (k : ℕ) → times_in k (without_ended w ks list) ≤ 1
+still_once w ks list once k = subst (λ (n : ℕ). n ≤ 1) (sym (times-filter (λ q. not (is_one_of q ks && not (is_process w is_ready q))) k list))
+    (by_test (not (is_one_of k ks && not (is_process w is_ready k))))
+  where
+    by_test : (b : Bool) → (if b then times_in k list else 0) ≤ 1
+    by_test true = once k
+    by_test false = omega arith
+
+-- nor are there more of others
+pub others_once : (p : ℕ) (list : List ℕ) → ((k : ℕ) → times_in k list ≤ 1) → (k : ℕ) → times_in k (others_of p list) ≤ 1
+others_once p list once k = subst (λ (n : ℕ). n ≤ 1) (sym (times-filter (λ q. not (q == p)) k list)) (by_test (not (k == p)))
+  where
+    by_test : (b : Bool) → (if b then times_in k list else 0) ≤ 1
+    by_test true = once k
+    by_test false = omega arith

@@ -94,3 +94,11 @@ times_self p = rw (eq-eqb p p refl) refl
 
 pub times_none : (p k : ℕ) → (k == p) ≡ false → times_in k (p ∷ []) ≡ 0
 times_none p k apart = rw (other_way k p apart) refl
+
+-- no process stands twice in the list
+pub listed_once : (w : World) (ready out : List ℕ) → Listed w ready out → (k : ℕ) → times_in k ready ≤ 1
+listed_once w ready out listed k = by_test (is_process w is_ready k) refl
+  where
+    by_test : (b : Bool) → is_process w is_ready k ≡ b → times_in k ready ≤ 1
+    by_test true is = omega (arith, listed.once k is)
+    by_test false is = omega (arith, listed.alone k is)

@@ -7,7 +7,9 @@ use Rattle.zl_sched.proofs.Common.{requeued, slice_get, state_passes, still_read
 use Rattle.zl_sched.proofs.Common.{times_in, true, ℕ, ◌&&◌, ◌++◌, ◌+◌, ◌-◌, ◌<◌, ◌==◌, ◌∙◌, ◌∷◌, ◌≡◌, ◌≤◌, []}
 use Rattle.std.proofs.lemmas.Map.Views.{any-filter_same}
 use Rattle.zl_sched.specs.declared.change.Change.TheVariants as change
-use Rattle.zl_sched.proofs.ReadyChange.{IsChanged, OthersCome, StayReady}
+use Rattle.zl_sched.proofs.Common.{LeaveTold, is_one_of}
+use Rattle.zl_objects.specs.declared.below.TaskList.{TaskList}
+use Rattle.zl_sched.proofs.ReadyChange.{IsChanged, OthersCome, StayReady, StayTold}
 use Rattle.std.proofs.lemmas.Option.{slice_get_within, get_or_from_slice_get}
 use Rattle.std.proofs.Math.Bool.{and-false}
 use Rattle.zl_calls.proofs.lists.Positions.{times-append, times-filter}
@@ -17,6 +19,16 @@ use Rattle.zl_verify.proofs.OwnTable.{other_way}
 use Rattle.zl_sched.proofs.Common.{joining, pids_told, others_of, ◌⊎◌}
 
 -- ---- filters
+
+-- what passes one test, of what passes another
+pub both_filters : (f g : ℕ → Bool) (xs : List ℕ) → filter f (filter g xs) ≡ filter (λ x. g x && f x) xs
+both_filters f g [] = refl
+both_filters f g (x ∷ xs) = by_test (g x) (both_filters f g xs)
+  where
+    by_test : (b : Bool) → filter f (filter g xs) ≡ filter (λ y. g y && f y) xs
+        → filter f (if b then x ∷ filter g xs else filter g xs) ≡ (if b && f x then x ∷ filter (λ y. g y && f y) xs else filter (λ y. g y && f y) xs)
+    by_test true e = λ i. if f x then x ∷ e i else e i
+    by_test false e = e
 
 -- a list in which nothing stands is empty
 pub none_counted : (xs : List ℕ) → ((k : ℕ) → ◌≡◌ {A = ℕ} (times_in k xs) 0) → xs ≡ []
@@ -245,11 +257,33 @@ module _ (w after : World) (p : ℕ) (list out : List ℕ) (b : Before w after p
       by_place (inr apart) = one_more (is_process after is_ready k) (is_process w is_ready k) (times_in k (pids_of after))
           (λ now. key_once k after.processes sound.handles.processes (ready_key after k now)) ∙ (sym (come k apart) ∙ rw apart refl)
 
+  -- those of the others leave that were killed
+  left_told : (killed : Option TaskList) → StayTold w p after killed → LeaveTold after p list killed
+  left_told None stay = tt
+  left_told (Some told) stay = λ whole. alike (λ q. is_process after is_ready q && not (q == p)) kept list (by_place whole)
+      ∙ sym (both_filters (λ q. not (is_one_of q told.koids.items && not (is_process after is_ready q))) (λ q. not (q == p)) list)
+    where
+      kept : ℕ → Bool
+      kept q = not (q == p) && not (is_one_of q told.koids.items && not (is_process after is_ready q))
+
+      by_tests : (now listed : Bool) → (listed ≡ false → now ≡ true) → (now && true) ≡ not (listed && not now)
+      by_tests true true stays = refl
+      by_tests true false stays = refl
+      by_tests false true stays = refl
+      by_tests false false stays = absurd (false≢true (stays refl))
+
+      by_place : told.whole ≡ true → (k : ℕ) → 0 < times_in k list → (is_process after is_ready k && not (k == p)) ≡ kept k
+      by_place whole k some = elim (cases_Bool (k == p)) as (λ _. (is_process after is_ready k && not (k == p)) ≡ kept k) [
+        | inl here ↦ rw here (and-false (is_process after is_ready k))
+        | inr apart ↦ rw apart (by_tests (is_process after is_ready k) (is_one_of k told.koids.items)
+            (λ out. stay whole k apart out (in_list k apart some)))
+      ]
+
   pub told : IsSound after → (c : Change) → IsChanged w p after c → IsTold after p out list c
   told sound change.Nobody (stay, come, ready) =
       rw (none_counted _ (joining_is sound [] come), ready) (ap (λ (ks : List ℕ). ks ++ (p ∷ [])) (still stay))
   told sound (change.Few who) (stay, come) = (still stay, λ all. joining_is sound (pids_told who) (come all))
-  told sound (change.Fewer who) come = λ all. joining_is sound (pids_told who) (come all)
+  told sound (change.Fewer said) (stay, come) = (left_told said.killed stay, λ all. joining_is sound (pids_told said.woke) (come all))
 
 -- the last of a list in which it stands once stays where it is
 pub last_stays : (p : ℕ) (xs : List ℕ) → times_in p (xs ++ (p ∷ [])) ≡ 1 → xs ++ (p ∷ []) ≡ filter (λ q. not (q == p)) (xs ++ (p ∷ [])) ++ (p ∷ [])

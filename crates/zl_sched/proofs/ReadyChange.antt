@@ -9,6 +9,11 @@ use Rattle.zl_code.specs.declared.history.CallName.TheVariants as name
 use Rattle.zl_code.specs.declared.history.Outcome.TheVariants as outcome
 use Rattle.zl_code.specs.declared.history.TraceItem.TheVariants as item
 use Rattle.zl_calls.specs.declared.waking.Woke.TheVariants as woke
+use Rattle.std.specs.Option.{IfSome}
+use Rattle.zl_sched.proofs.Common.{IsTrue, TellsKilled, Told, is_one_of, task_next, task_of}
+use Rattle.zl_code.proofs.Common.{koid_in}
+use Rattle.zl_code.proofs.Common.{is_within}
+use Rattle.zl_objects.specs.declared.below.TaskList.{TaskList}
 use Rattle.zl_sched.specs.declared.change.Change.TheVariants as change
 use Rattle.zl_sched.proofs.ChildReady.{child_ready}
 use Rattle.zl_sched.proofs.StillReady.{AsOrWoken, Left, Less, called_so, ends, goes_on, is_one, killed_so, left_then, less_then, moved, settled_so}
@@ -31,11 +36,16 @@ OthersCome w p after who =
 abbrev pub ToldCome : World → ℕ → World → Woke → Type 0
 ToldCome w p after who = tells_all who ≡ true → OthersCome w p after (pids_told who)
 
+-- the same of those that weren't killed, if these are told
+abbrev pub StayTold : World → ℕ → World → Option TaskList → Type 0
+StayTold w p after killed = IfSome killed (λ told. told.whole ≡ true → (k : ℕ) → (k == p) ≡ false → is_one_of k told.koids.items ≡ false
+    → is_process w is_ready k ≡ true → is_process after is_ready k ≡ true)
+
 -- the change of a step of p from w to after is so much
 abbrev pub IsChanged : World → ℕ → World → Change → Type 0
 IsChanged w p after change.Nobody = StayReady w p after × OthersCome w p after [] × (is_process after is_ready p ≡ true)
 IsChanged w p after (change.Few who) = StayReady w p after × ToldCome w p after who
-IsChanged w p after (change.Fewer who) = ToldCome w p after who
+IsChanged w p after (change.Fewer told) = StayTold w p after told.killed × ToldCome w p after told.woke
 
 -- likewise from a world in which the others are as ready
 module _ (u w : World) (p : ℕ) (after : World) (same : (k : ℕ) → (k == p) ≡ false → is_process u is_ready k ≡ is_process w is_ready k) where
@@ -45,10 +55,14 @@ module _ (u w : World) (p : ℕ) (after : World) (same : (k : ℕ) → (k == p) 
   stay_from : StayReady u p after → StayReady w p after
   stay_from stay k apart now = stay k apart (same k apart ∙ now)
 
+  told_from : (killed : Option TaskList) → StayTold u p after killed → StayTold w p after killed
+  told_from None stay = tt
+  told_from (Some told) stay = λ whole k apart out now. stay whole k apart out (same k apart ∙ now)
+
   pub changed_from : (c : Change) → IsChanged u p after c → IsChanged w p after c
   changed_from change.Nobody (stay, come, ready) = (stay_from stay, come_from [] come, ready)
   changed_from (change.Few who) (stay, come) = (stay_from stay, λ all. come_from (pids_told who) (come all))
-  changed_from (change.Fewer who) come = λ all. come_from (pids_told who) (come all)
+  changed_from (change.Fewer told) (stay, come) = (told_from told.killed stay, λ all. come_from (pids_told told.woke) (come all))
 
 and_not : (b : Bool) → (b && not b) ≡ false
 and_not true = refl
@@ -261,6 +275,34 @@ module _ (lib : Library) (w : World) (p : ℕ) (x : TraceItem) (after : World) (
         by_test true starts = absurd (false≢true (sym kills ∙ start_spares x starts))
         by_test false starts = refl
 
+    -- who isn't listed stays as it is
+    spared : (list : TaskList) → TellsKilled lib w p (Some list) → list.whole ≡ true → (k : ℕ) → (p == k) ≡ false → is_one_of k list.koids.items ≡ false
+        → Left k step.acted w
+    spared list tells whole k apart out = by_next (next_for lib step.process) refl step.acts
+      where
+        by_next : (n : Next) → next_for lib step.process ≡ n → Acts lib w p n x step.acted → Left k step.acted w
+        by_next (Moves c) at a = absurd (false≢true (sym kills ∙ ap leaves_others a.0))
+        by_next IsStuck at a = absurd (false≢true (sym kills ∙ ap leaves_others a.0))
+        by_next (AtCall call s) at (o, is, calls) =
+            let (task, asked) = asks_to_kill s.request
+            (ap may_kill (asked_next step.process.cpu call s _ at) ∙ not-false (may_kill call) (sym (ap leaves_others is) ∙ kills)) in
+            let named : task_next step.process.handles (next_for lib step.process) ≡ Some (koid_in (get step.process.handles task))
+            = ap (task_next step.process.handles) at ∙ ap (task_of step.process.handles) asked in
+            let outside : is_within w.objects (koid_in (get step.process.handles task)) k ≡ false
+            = not_within (is_within w.objects (koid_in (get step.process.handles task)) k) (tells step.process step.is_there _ named whole k) in
+            called_so k lib w p (no_process w sound) s calls.0 (refusal lib w p s.request) o step.acted
+            (λ ok. rw (asked, step.is_there, outside) refl) (λ stops. apart) calls.1
+          where
+            not_within : (b : Bool) → (IsTrue b → IsTrue (is_one_of k list.koids.items)) → b ≡ false
+            not_within true listed = absurd (false≢true (sym out ∙ listed refl))
+            not_within false listed = refl
+
+    stays_told : (killed : Option TaskList) → TellsKilled lib w p killed → StayTold w p after killed
+    stays_told None tells = tt
+    stays_told (Some list) tells = λ whole k apart out now.
+        stay_so k (left_then k _ _ w (settled_so k step.acted step.settled step.settles) (spared list tells whole k (other_way k p apart) out) is_ready
+        refl refl ∙ now)
+
     fewer_same : (k : ℕ) → (k == p) ≡ false → (is_process after is_ready k && not (is_process step.settled is_ready k))
         ≡ (is_process after is_ready k && not (is_process w is_ready k))
     unfolding is_process
@@ -285,15 +327,18 @@ module _ (lib : Library) (w : World) (p : ℕ) (x : TraceItem) (after : World) (
         come_so None list (subst (λ (c : Option ℕ). AreParted step.settled.blocked c list after.blocked) starts_none parted) k refl
         ∙ ap (λ (b : Bool). if b then 1 else 0) (fewer_same k apart)
 
-  pub changed : (who : Woke) → Tells lib w p x after step who → IsChanged w p after (change_of x who)
-  changed who t = by_nobody (is_nobody who && leaves_ready x) refl
+  pub changed : (all_told : Told) → Tells lib w p x after step all_told.woke → TellsKilled lib w p all_told.killed → IsChanged w p after (change_of x all_told)
+  changed all_told t killed = by_nobody (is_nobody who && leaves_ready x) refl
     where
+      who : Woke
+      who = all_told.woke
+
       come : leaves_others x ≡ true → (list : List ℕ) → AreParted step.settled.blocked child list after.blocked → OthersCome w p after list
       come others list parted = comes_by others child refl list parted
 
-      few_or : (b : Bool) → leaves_others x ≡ b → IsChanged w p after (few_if b who)
+      few_or : (b : Bool) → leaves_others x ≡ b → IsChanged w p after (few_if b all_told)
       few_or true others = (stays_by others child refl, λ all. come others (pids_told who) (t all))
-      few_or false kills = λ all. fewer kills (pids_told who) (t all)
+      few_or false kills = (stays_told kills all_told.killed killed, λ all. fewer kills (pids_told who) (t all))
 
       nobody : (v : Woke) → is_nobody v ≡ true → (tells_all v ≡ true → AreParted step.settled.blocked child (pids_told v) after.blocked)
           → AreParted step.settled.blocked child [] after.blocked
@@ -301,7 +346,7 @@ module _ (lib : Library) (w : World) (p : ℕ) (x : TraceItem) (after : World) (
       nobody (woke.One pid) is left = absurd (false≢true is)
       nobody (woke.Several list) is left = absurd (false≢true is)
 
-      by_nobody : (b : Bool) → (is_nobody who && leaves_ready x) ≡ b → IsChanged w p after (if b then change.Nobody else few_if (leaves_others x) who)
+      by_nobody : (b : Bool) → (is_nobody who && leaves_ready x) ≡ b → IsChanged w p after (if b then change.Nobody else few_if (leaves_others x) all_told)
       by_nobody true is =
           let both = and_parts (is_nobody who) (leaves_ready x) is in
           let others = spares_more x both.1 in

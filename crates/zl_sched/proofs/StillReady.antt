@@ -88,6 +88,12 @@ abbrev pub is_one : Option ℕ → ℕ → Bool
 is_one None k = false
 is_one (Some q) k = k == q
 
+-- handles that go leave the objects
+same_objects : (u : World) (p : ℕ) (hs : List ℕ) → (remove_all u p hs).objects ≡ u.objects
+unfolding remove_all on_process
+same_objects u p [] = refl
+same_objects u p (h ∷ hs) = same_objects (on_process u p (process_without h)) p hs
+
 -- ---- what a process does
 
 -- k passes the same in both worlds
@@ -97,10 +103,10 @@ Left k u w = (test : State → Bool) → test Created ≡ false → test Gone �
 pub left_then : (k : ℕ) (u v w : World) → Left k u v → Left k v w → Left k u w
 left_then k u v w a b test made gone = a test made gone ∙ b test made gone
 
--- the request of p kills nobody, and doesn't start k
-abbrev spares : World → ℕ → ℕ → Request → Bool
+-- the request of p doesn't kill k, and doesn't start it
+abbrev pub spares : World → ℕ → ℕ → Request → Bool
 spares w p k (process_start process h word) = not (object_at w p process == k)
-spares w p k (task_kill task) = false
+spares w p k (task_kill task) = not (is_within w.objects (object_at w p task) k)
 spares w p k r = true
 
 -- so does one whose name kills nobody, where its answer doesn't tell that k was started
@@ -168,15 +174,23 @@ module _ (k : ℕ) where
         | inr apart ↦ rw apart refl
       ]
 
-  effected : (lib : Library) (w u : World) (p : ℕ) (request : Request) (vs : List ℕ) → get u.processes w.next_koid ≡ None → spares w p k request ≡ true
-      → Left k (effect lib w u p request vs) u
-  unfolding effect with_object on_object is_process
-  effected lib w u p (process_create job program) vs free left test fresh gone =
+  effected : (lib : Library) (w u : World) (p : ℕ) (request : Request) (vs : List ℕ) → get u.processes w.next_koid ≡ None → u.objects ≡ w.objects
+      → spares w p k request ≡ true → Left k (effect lib w u p request vs) u
+  unfolding effect with_object on_object is_process with_killed
+  effected lib w u p (process_create job program) vs free same left test fresh gone =
       rw (get-put u.processes w.next_koid (created_process lib program) k) (made_so lib w u program test fresh free)
-  effected lib w u p (process_start process h word) vs free left test fresh gone =
+  effected lib w u p (process_start process h word) vs free same left test fresh gone =
       elsewhere u (object_at w p process) (started_with vs word) (not-true _ left) test fresh gone
-  effected lib w u p (task_kill task) vs free left test fresh gone = absurd (false≢true left)
-  effected lib w u p _ vs free left test fresh gone = refl
+  effected lib w u p (task_kill task) vs free same left test fresh gone =
+      rw (
+        get-each u.processes (λ j. process_killed (is_within u.objects (object_at w p task) j)) k,
+        ap (λ objects. is_within objects (object_at w p task) k) same ∙ not-true _ left,
+      ) (by_process (get u.processes k))
+    where
+      by_process : (o : Option Process) → state_passes test (option_map (process_killed false) o) ≡ state_passes test o
+      by_process None = refl
+      by_process (Some x) = refl
+  effected lib w u p _ vs free same left test fresh gone = refl
 
   pub settled_so : (u v : World) → Settles u v → Left k v u
   unfolding is_process without_others
@@ -204,7 +218,8 @@ module _ (k : ℕ) where
         left_then k _ _ w (kept_in _ p (kept_by s.request vs))
         (left_then k _ _ w (stored _ p (stored_by w p s.request))
         (left_then k _ _ w (entered _ (receiver_of w p s.request) (new_handles w p s.request) (entering_at s.request vs))
-        (left_then k _ _ w (effected lib w (taken w p s) p s.request vs (still_free p w.next_koid (taken_handles s.request) w free) left)
+        (left_then k _ _ w (effected lib w (taken w p s) p s.request vs (still_free p w.next_koid (taken_handles s.request) w free)
+        (same_objects w p (taken_handles s.request)) left)
         (removed w p (taken_handles s.request)))))
 
     done_so : (s : Site) (vs : List ℕ) (o : Outcome) → spares w p k s.request ≡ true → (goes_on o ≡ false → (p == k) ≡ false)

@@ -12,7 +12,8 @@ use Rattle.zl_calls.specs.World.{Machine, is_ready_in, own_here}
 use Rattle.zl_calls.specs.Steps.{TakesStep}
 use Rattle.zl_calls.specs.Turns.{IsTurn, Fits, advanced, steps_done}
 use Rattle.zl_calls.specs.Started.{Tells}
-use Rattle.zl_calls.specs.declared.waking.Woke.{Woke}
+use Rattle.zl_calls.specs.declared.waking.Told.{Told}
+use Rattle.zl_calls.specs.Killed.{TellsKilled}
 use Rattle.zl_sched.specs.declared.hand_in.HandIn.{HandIn}
 use Rattle.zl_sched.specs.declared.hand_in.HandIn.TheVariants as hand
 use Rattle.zl_sched.specs.declared.hand_in.Judged.{Judged}
@@ -126,7 +127,8 @@ Judges s d judged.Fits = IsAwaited s d × HasRoom s d
 -- what comes behind the local instructions changes so much of who is ready, as far as its item and what is told beside it say
 abbrev pub Changes : (more : Bool) (m : Machine) (p : ℕ) (last : List TraceItem) (m2 : Machine) → Ends more m p last m2 → Change → Type 0
 Changes true m p last m2 ends c = c ≡ change.Nobody
-Changes false m p last m2 (x, is, taken, own) c = (who : Woke) × Tells m.programs m.world (pid_of x) x m2.world taken.steps.step who × (c ≡ change_of x who)
+Changes false m p last m2 (x, is, taken, own) c = (told : Told) × Tells m.programs m.world (pid_of x) x m2.world taken.steps.step told.woke
+    × TellsKilled m.programs m.world p told.killed × (c ≡ change_of x told)
 
 -- what comes behind the local instructions, with the trace, and what it changes of who is ready
 pub record EndsFrom (more : Bool) (m : Machine) (items : List TraceItem) (p : ℕ) (c : Change) (m2 : Machine) (items2 : List TraceItem) : Type 0 where

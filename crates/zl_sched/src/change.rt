@@ -3,7 +3,7 @@
 ghost use Rattle.std.specs.Prelude.{not, ◌≡◌};
 ghost use Rattle.zl_sched.specs.Queueing.{change_of, few_if, is_nobody, leaves_others, leaves_ready, may_kill};
 
-use zl_calls::Woke;
+use zl_calls::{Told, Woke};
 use zl_code::{CallName, Outcome, TraceItem};
 
 /// Who may be ready after a step and wasn't before it, or the other way round.
@@ -14,18 +14,18 @@ pub enum Change {
     /// The process of the step, and those that became ready.
     Few(Woke),
     /// The process of the step, those that were killed, and those that became ready.
-    Fewer(Woke),
+    Fewer(Told),
 }
 
-/// What the step of the item changes, behind which these became ready.
+/// What the step of the item changes, behind which this was told.
 #[inline(always)]
-pub fn change_of(item: &TraceItem, woke: Woke) -> Change
-    ensures { result ≡ change_of item.now woke }
+pub fn change_of(item: &TraceItem, told: Told) -> Change
+    ensures { result ≡ change_of item.now told }
 {
-    if is_nobody(&woke) && leaves_ready(item) {
+    if is_nobody(&told.woke) && leaves_ready(item) {
         return Change::Nobody;
     }
-    few_if(leaves_others(item), woke)
+    few_if(leaves_others(item), told)
 }
 
 /// Whether nobody became ready.
@@ -36,13 +36,13 @@ fn is_nobody(woke: &Woke) -> bool
 }
 
 /// At most the process and these, where that is so, else those too that were killed.
-fn few_if(is_so: bool, woke: Woke) -> Change
-    ensures { result ≡ few_if is_so woke }
+fn few_if(is_so: bool, told: Told) -> Change
+    ensures { result ≡ few_if is_so told }
 {
     if is_so {
-        Change::Few(woke)
+        Change::Few(told.woke)
     } else {
-        Change::Fewer(woke)
+        Change::Fewer(told)
     }
 }
 

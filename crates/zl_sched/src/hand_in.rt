@@ -215,11 +215,11 @@ fn end(world: &mut World, items: &mut Vec<TraceItem>, pid: Pid, is_only_local: b
     if is_only_local {
         return Change::Nobody;
     }
-    let Some((item, woke)) = world.step(pid) else {
+    let Some((item, told)) = world.step(pid) else {
         unreachable!()
     };
     items.push_reserved(item);
-    change_of(&item, woke)
+    change_of(&item, told)
 }
 
 /// The item of so many local instructions, if there were any.

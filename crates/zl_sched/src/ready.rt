@@ -1,19 +1,23 @@
 //! The list of the processes that are ready, by their last step or when they became ready, and the marks
 //! of those that are out.
 
-ghost use Rattle.std.specs.Prelude.{IfOk, IsTrue, ◌≡◌, ◌==◌, ◌≤◌, ◌+◌, ◌++◌, ◌∷◌, [], not, length, vec_capacity};
+ghost use Rattle.std.specs.Prelude.{ℕ, IfOk, IsTrue, ◌≡◌, ◌==◌, ◌≤◌, ◌+◌, ◌++◌, ◌∷◌, [], not, length, vec_capacity};
 ghost use Rattle.std.specs.List.{filter, position};
 ghost use Rattle.std.specs.Ordering.{nat_cmp};
 ghost use Rattle.std.specs.FinMap.Entries.{is_sorted};
 ghost use Rattle.zl_calls.specs.World.{is_ready_in};
-ghost use Rattle.zl_sched.specs.Queueing.{AreJoining, IsTold, joined_by, joining, joins, one_if, requeued};
-ghost use Rattle.zl_sched.specs.Ready.{is_in, others_of, ready_by_koid as are_ready_by_koid, still_ready};
+ghost use Rattle.zl_sched.specs.Queueing.{AreJoining, IsTold, LeaveTold, joined_by, joining, joins, one_if, requeued, without_ended};
+ghost use Rattle.zl_sched.specs.Ready.{is_in, others_of, ready_by_koid as are_ready_by_koid, still_ready, times_in};
 
 use crate::change::Change;
 use std::alloc::{AllocError, Global};
-use zl_calls::{Woke, WokeList, World};
+use zl_calls::{Told, Woke, WokeList, World};
 use zl_code::ProcState;
-use zl_rights::Pid;
+use zl_objects::TaskList;
+use zl_rights::{Koid, Pid};
+
+/// Of more that were killed than so many not each is looked for in the list.
+const FEW: usize = 64;
 
 /// Whether the process is there and ready.
 pub fn is_ready(world: &World, pid: Pid) -> bool
@@ -58,6 +62,7 @@ pub fn ready_by_koid(alloc: Global, world: &World) -> Result<Vec<Pid>, AllocErro
 pub fn move_on(ready: &mut Vec<Pid>, out: &[Pid], world: &mut World, pid: Pid, change: Change)
     requires told { IsTold world.old.world pid out.now ready.old.items change }
     requires once { length (filter (λ q. q == pid) ready.old.items) ≡ 1 }
+    requires each_once { (k : ℕ) → times_in k ready.old.items ≤ 1 }
     requires room { length (requeued world.old.world pid out.now ready.old.items)
         ≤ vec_capacity ready.old }
     ensures items { ready.new.items ≡ requeued world.old.world pid out.now ready.old.items }
@@ -70,10 +75,7 @@ pub fn move_on(ready: &mut Vec<Pid>, out: &[Pid], world: &mut World, pid: Pid, c
             take_out(ready, pid);
             come(ready, out, world, pid, woke);
         }
-        Change::Fewer(woke) => {
-            keep_ready(ready, world, pid);
-            come(ready, out, world, pid, woke);
-        }
+        Change::Fewer(told) => go_fewer(ready, out, world, pid, told),
     }
 }
 
@@ -81,6 +83,7 @@ pub fn move_on(ready: &mut Vec<Pid>, out: &[Pid], world: &mut World, pid: Pid, c
 pub fn queue(ready: &mut Vec<Pid>, out: &[Pid], world: &mut World, pid: Pid, change: Change)
     requires told { IsTold world.old.world pid out.now ready.old.items change }
     requires apart { length (filter (λ q. q == pid) ready.old.items) ≡ 0 }
+    requires each_once { (k : ℕ) → times_in k ready.old.items ≤ 1 }
     requires room { length (requeued world.old.world pid out.now ready.old.items)
         ≤ vec_capacity ready.old }
     ensures items { ready.new.items ≡ requeued world.old.world pid out.now ready.old.items }
@@ -90,11 +93,75 @@ pub fn queue(ready: &mut Vec<Pid>, out: &[Pid], world: &mut World, pid: Pid, cha
     match change {
         Change::Nobody => ready.push_reserved(pid),
         Change::Few(woke) => come(ready, out, world, pid, woke),
-        Change::Fewer(woke) => {
-            keep_ready(ready, world, pid);
-            come(ready, out, world, pid, woke);
-        }
+        Change::Fewer(told) => go_fewer(ready, out, world, pid, told),
     }
+}
+
+/// The same behind a kill; the world gets the list of whom it may have killed back.
+// Apart from the steps that change little, which are nearly all.
+#[inline(never)]
+fn go_fewer(ready: &mut Vec<Pid>, out: &[Pid], world: &mut World, pid: Pid, told: Told)
+    requires told { LeaveTold world.old.world pid ready.old.items told.killed }
+    requires joining { AreJoining world.old.world pid out.now
+        (still_ready world.old.world pid ready.old.items) told.woke }
+    requires each_once { (k : ℕ) → times_in k ready.old.items ≤ 1 }
+    requires room { length (requeued world.old.world pid out.now ready.old.items)
+        ≤ vec_capacity ready.old }
+    ensures items { ready.new.items ≡ requeued world.old.world pid out.now ready.old.items }
+    ensures capacity { vec_capacity ready.new ≡ vec_capacity ready.old }
+    ensures world { world.new ≡ world.old }
+{
+    leave(ready, world, pid, &told.killed);
+    let Told { woke, killed } = told;
+    come(ready, out, world, pid, woke);
+    let none = Woke::Nobody;
+    world.put_back(Told { woke: none, killed });
+}
+
+/// The process leaves its place in the list, and so do those that were killed. Where they are told, and
+/// are few, just these are looked for.
+fn leave(ready: &mut Vec<Pid>, world: &World, pid: Pid, killed: &Option<TaskList>)
+    requires told { LeaveTold world.now.world pid ready.old.items killed.now }
+    requires each_once { (k : ℕ) → times_in k ready.old.items ≤ 1 }
+    ensures items { ready.new.items ≡ still_ready world.now.world pid ready.old.items }
+    ensures capacity { vec_capacity ready.new ≡ vec_capacity ready.old }
+{
+    let Some(list) = killed else {
+        keep_ready(ready, world, pid);
+        return;
+    };
+    if !list.whole || list.koids.len() > FEW {
+        keep_ready(ready, world, pid);
+        return;
+    }
+    leave_one(ready, pid);
+    leave_each(ready, world, list.koids.as_slice());
+}
+
+/// Those of these that aren't ready leave the list.
+fn leave_each(ready: &mut Vec<Pid>, world: &World, koids: &[Koid])
+    requires { (k : ℕ) → times_in k ready.old.items ≤ 1 }
+    ensures items { ready.new.items ≡ without_ended world.now.world koids.now ready.old.items }
+    ensures capacity { vec_capacity ready.new ≡ vec_capacity ready.old }
+{
+    for koid in koids {
+        if is_ready(world, *koid) {
+            continue;
+        }
+        leave_one(ready, *koid);
+    }
+}
+
+/// The process leaves the list, if it stands there.
+fn leave_one(ready: &mut Vec<Pid>, pid: Pid)
+    requires { times_in pid ready.old.items ≤ 1 }
+    ensures items { ready.new.items ≡ others_of pid ready.old.items }
+    ensures capacity { vec_capacity ready.new ≡ vec_capacity ready.old }
+{
+    let Some(place) = place_of(ready, pid) else {
+        return;
+    };
+    ready.remove(place);
 }
 
 /// The process leaves its place in the list and goes last. Nothing is moved where it is the last.
@@ -173,13 +240,7 @@ fn join(ready: &mut Vec<Pid>, out: &[Pid], world: &mut World, pid: Pid, woke: Wo
 /// The same of several, by koid; the world gets their list back.
 // Apart from the steps that change little, which are nearly all.
 #[inline(never)]
-fn join_several(
-    ready: &mut Vec<Pid>,
-    out: &[Pid],
-    world: &mut World,
-    pid: Pid,
-    mut list: WokeList,
-)
+fn join_several(ready: &mut Vec<Pid>, out: &[Pid], world: &mut World, pid: Pid, mut list: WokeList)
     requires told { AreJoining world.old.world pid out.now ready.old.items (Woke.Several list) }
     requires in_order { IsTrue (is_sorted nat_cmp world.old.world.processes) }
     requires room { length (ready.old.items
@@ -191,12 +252,22 @@ fn join_several(
 {
     if !list.whole {
         join_all(ready, out, world, pid);
-        world.put_back(Woke::Several(list));
+        give_back(world, list);
         return;
     }
     list.pids.sort_unstable();
     push_others(ready, list.pids.as_slice(), pid);
-    world.put_back(Woke::Several(list));
+    give_back(world, list);
+}
+
+/// The world gets the list back.
+fn give_back(world: &mut World, list: WokeList)
+    ensures { world.new ≡ world.old }
+{
+    world.put_back(Told {
+        woke: Woke::Several(list),
+        killed: None,
+    });
 }
 
 /// Each of these comes last, but for the process.

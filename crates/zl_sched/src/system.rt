@@ -191,7 +191,7 @@ impl System {
         if make_room(&mut self.ready, &self.world).is_err() {
             return self.refused(pid, Stepped::NoMemory);
         }
-        let Some((item, woke)) = self.world.step(pid) else {
+        let Some((item, told)) = self.world.step(pid) else {
             return Stepped::NotReady;
         };
         self.items.push(item).unwrap();
@@ -200,7 +200,7 @@ impl System {
             &self.out,
             &mut self.world,
             pid,
-            change_of(&item, woke),
+            change_of(&item, told),
         );
         Stepped::Ran
     }

@@ -88,9 +88,9 @@ fn repeat_step(world: &mut World, pid: Pid, item: TraceItem) -> bool
         (own_here world.new) }
     ensures other { result ≡ false → StepDiffers world.old.programs (own_here world.old) item }
 {
-    let Some((own, woke)) = world.step(pid) else {
+    let Some((own, told)) = world.step(pid) else {
         return false;
     };
-    world.put_back(woke);
+    world.put_back(told);
     own.is_same(item)
 }

@@ -6,6 +6,12 @@ use Rattle.zl_calls.proofs.Common.{◌≡◌}
 use Rattle.zl_code.specs.declared.history.CallName.TheVariants as name
 use Rattle.zl_code.specs.declared.history.TraceItem.TheVariants as item
 use Rattle.zl_calls.proofs.step.Performing.{stands_there}
+use Rattle.zl_calls.proofs.step.StepItems.{asked_next}
+use Rattle.zl_calls.proofs.Common.{AtCall, Entry, IfSome, IsStuck, Map, Moves, Next, Request, World, map, name_of, none-some, process_entry, slice_get}
+use Rattle.zl_calls.proofs.Common.{NotesNextTask, TellsKilled, stands_next, task_next, task_of}
+use Rattle.zl_code.specs.CallTable.{task_kill}
+use Rattle.zl_interp.specs.Common.{call_here}
+use Rattle.zl_objects.specs.declared.below.TaskList.{TaskList}
 use Rattle.zl_calls.proofs.Common.{HaveLeft}
 
 -- what is so of a start is so of the item
@@ -26,6 +32,48 @@ call_notes lib ps r blocked pid place p found read all all2 n o t called noted q
   where
     next : next_for lib (process_value p) ≡ calls_at n (Some called.site)
     next = called.next ∙ (λ i. calls_at (sym called.named i) (called.at_site i))
+
+-- ---- what it was to kill
+
+task_asked : (handles : Map Entry) (r : Request) (task : ℕ) → task_of handles r ≡ Some task → name_of r ≡ name.TaskKill
+task_asked handles (task_kill t) task is = refl
+task_asked handles _ task is = absurd (none-some task is)
+
+no_task : (handles : Map Entry) (n : Next) → call_here n ≡ None → task_next handles n ≡ None
+no_task handles (AtCall call s) none = absurd (none-some call (sym none))
+no_task handles (Moves c) none = refl
+no_task handles IsStuck none = refl
+
+module _ (lib : Library) (ps : List Process) (r : Objects) (blocked : List ℕ) (pid place : ℕ) (p : Process)
+    (found : Some place ≡ position (λ q. q.pid == pid) ps) (read : p ≡ get_or ps place p) where
+  task_here : (q : ProcessValue) → get (map process_entry ps) pid ≡ Some q → (task : ℕ) → task_next q.handles (next_for lib q) ≡ Some task
+      → task_next p.table.entries (next_for lib (process_value p)) ≡ Some task
+  task_here q at task = subst (λ (x : ProcessValue). task_next x.handles (next_for lib x) ≡ Some task)
+      (sym (same_Some (process_value p) q (sym (stands_there ps pid place p found read) ∙ at)))
+
+  -- a call that was done lists it
+  pub kill_notes : (all all2 : Parts) (n : CallName) (o : Outcome) (t : Taken) → CalledAmong lib place p all n o all2 → NotesNextTask lib p r n t
+      → TellsKilled lib (world_blocked ps r blocked) pid (Some t.killed)
+  kill_notes all all2 n o t called noted q at task is =
+      noted (Some called.site) next
+      (sym (asked_next p.cpu n called.site (slice_get lib p.program) next) ∙ task_asked p.table.entries called.site.request task asked) task asked
+    where
+      next : next_for lib (process_value p) ≡ calls_at n (Some called.site)
+      next = called.next ∙ (λ i. calls_at (sym called.named i) (called.at_site i))
+
+      asked : task_of p.table.entries called.site.request ≡ Some task
+      asked = sym (ap (task_next p.table.entries) next) ∙ task_here q at task is
+
+  -- where no call stands next nothing is killed
+  pub kills_none : call_here (stands_next lib p) ≡ None → (list : TaskList) → TellsKilled lib (world_blocked ps r blocked) pid (Some list)
+  kills_none none list q at task is =
+      absurd (none-some task (sym (no_task p.table.entries (next_for lib (process_value p)) none) ∙ task_here q at task is))
+
+-- what was noted is told, or nothing is
+pub told_killed : (lib : Library) (w : World) (p : ℕ) (told : Option TaskList) (list : TaskList) → IfSome told (λ t. t ≡ list) → TellsKilled lib w p (Some list)
+    → TellsKilled lib w p told
+told_killed lib w p None list is tells = tt
+told_killed lib w p (Some t) list is tells = subst (λ (x : TaskList). TellsKilled lib w p (Some x)) (sym is) tells
 
 -- a local instruction starts nobody
 pub local_starts : (x : TraceItem) (child : Option ℕ) → is_local x ≡ true → if_started x child ≡ None

@@ -83,7 +83,8 @@ module _ (lib : Library) (ps : List Process) (r : Objects) (b : List ℕ) (room 
             (just_started (then_blocked pid x b1) started w told)
 
         pub quiet_whole : (room2 : ℕ) → length ps1 ≤ room2 → IsWhole lib ps1 asleep (then_blocked pid x b1) room2
-        quiet_whole room2 enough = stepped_whole ps1 asleep (then_blocked pid x b1) room2 (quiet_step None woke.Nobody refl).takes asleep_consistent list known ordered enough
+        quiet_whole room2 enough = stepped_whole ps1 asleep (then_blocked pid x b1) room2 (quiet_step None woke.Nobody refl).takes asleep_consistent
+            list known ordered enough
 
     -- waits fire, and processes wake
     module _ (fires : Objects) (fired_so : FiresWaits ps1 asleep fires) (ps2 : List Process) (r2 : Objects) (b2 : List ℕ)

@@ -11,7 +11,6 @@ use Rattle.zl_rights.specs.World.{Awaited as AwaitedValue}
 use Rattle.zl_objects.specs.declared.awaited.Awaited.{Awaited}
 use Rattle.zl_objects.specs.declared.awaited.Awaited.TheVariants as awaits
 use Rattle.zl_objects.proofs.Sleeping.{at_port}
-use Rattle.zl_calls.specs.declared.waking.Woke.TheVariants as woke
 use Rattle.zl_calls.proofs.lists.Updates.{sorted_seen}
 use Rattle.zl_calls.proofs.step.Performing.{stands_there}
 use Rattle.zl_calls.proofs.objects.SameButWaits.{beside_consistent}
@@ -118,177 +117,177 @@ module _ (ps0 : List Process) (r0 : Objects) (first : List ℕ) (started : Optio
 
   module _ (ps : List Process) (r : Objects) (b : List ℕ) (told : List ℕ) (whole : Bool) (so_far : IsWakingListed ps0 r0 first started ps r b told whole)
     where
-    listed_there : (k : ℕ) (p : ProcessValue) (a : AwaitedValue) (ds : List ℕ) → get (map process_entry ps) k ≡ Some p → p.state ≡ Blocked a ds
-        → Contains r.sleepers (record { pid = k; awaited = awaited_of a })
-    listed_there k p a ds at is = by_seeks (so_far.sought k p a ds at is)
-      where
-        by_seeks : Seeks r k (awaited_of a) → Contains r.sleepers (record { pid = k; awaited = awaited_of a })
-        by_seeks (inl crowded) = absurd (false≢true (sym so_far.all ∙ crowded))
-        by_seeks (inr there) = there
-
-    -- nobody that is listed has what it waits for
-    pub listed_ends : All (λ s. is_due r.objects s.awaited ≡ false) r.sleepers → (who : Woke) → pids_told who ≡ told → (tells_all who ≡ true → whole ≡ true)
-        → Wakes ps0 r0 first started who ps r b
-    listed_ends none who same all = record {
-      wakes = sym (quiet_wakes ps r so_far.consistent b (λ k p a ds at is.
-          All-contains (λ (s : Sleeper). is_due r.objects s.awaited ≡ false) r.sleepers (record { pid = k; awaited = awaited_of a }) none
-          (listed_there k p a ds at is)) b) ∙ so_far.so_far;
-      consistent = so_far.consistent;
-      list = so_far.list;
-      sought = so_far.sought;
-      ordered = inr so_far.stand;
-      held = so_far.held;
-      none_due = none;
-      told = ends_told first started told whole b so_far.told who same all;
-    }
-
-    -- one is taken off the list
-    module _ (s : Sleeper) (r1 : Objects) (takes : TakesDue r s r1) where
-      taken_world : (c : List ℕ) → world_blocked ps r1 c ≡ world_blocked ps r c
-      taken_world c = ap (λ (y : Objects). world_blocked ps y c) takes.same
-
-      pub taken_consistent : IsConsistent ps r1
-      taken_consistent = beside_consistent ps r r1 (record {
-        objects = ap (λ (y : Objects). each (λ j. bare) y.objects) (sym takes.same);
-        koids = ap (λ (y : Objects). y.next_koid) takes.same;
-      }) so_far.consistent
-
-      taken_all : r1.crowded ≡ false
-      taken_all = ap (λ (y : Objects). y.crowded) takes.same ∙ so_far.all
-
-      still_listed : (k : ℕ) (p : ProcessValue) (a : AwaitedValue) (ds : List ℕ) → get (map process_entry ps) k ≡ Some p → p.state ≡ Blocked a ds
-          → (record { pid = k; awaited = awaited_of a } ≡ s → ⊥) → Contains r1.sleepers (record { pid = k; awaited = awaited_of a })
-      still_listed k p a ds at is apart = takes.others (record { pid = k; awaited = awaited_of a }) apart (listed_there k p a ds at is)
-
-      -- where the test leaves its process out, it is as if that was never listed
-      but_it : (test : ℕ → Bool) (port : ℕ) → (is_for port s.awaited ≡ true → test s.pid ≡ false)
-          → filter test (listed_for r1.sleepers port) ≡ filter test (listed_for r.sleepers port)
-      but_it test port out = sym (ap (filter test) (takes.order port) ∙ elim (cases_Bool (is_for port s.awaited)) as
-          (λ _. filter test (if is_for port s.awaited then s.pid ∷ listed_for r1.sleepers port else listed_for r1.sleepers port)
-          ≡ filter test (listed_for r1.sleepers port)) [ inl its ↦ rw (its, out its) refl | inr other ↦ rw other refl ])
-
-      -- it isn't blocked on that
-      pub sleeper_stays : (awaited_found (get (map process_entry ps) s.pid) ≡ Some s.awaited → ⊥)
-          → IsWakingListed ps0 r0 first started ps r1 b told whole
-      sleeper_stays elsewhere = record {
-        so_far = ap (λ (w : World). fold woken w b) (taken_world b) ∙ so_far.so_far;
-        consistent = taken_consistent;
-        list = so_far.list;
-        sought = λ k p a ds at is. inr (still_listed k p a ds at is (λ same. elsewhere (
-            subst (λ (x : Sleeper). awaited_found (get (map process_entry ps) x.pid) ≡ Some x.awaited) same (rw at (ap awaited_in is))
-            )));
-        stand = λ port. but_it (takes_at ps port) port (nowhere port) ∙ so_far.stand port;
-        all = taken_all;
-        held = so_far.held;
-        told = so_far.told;
-      }
+      listed_there : (k : ℕ) (p : ProcessValue) (a : AwaitedValue) (ds : List ℕ) → get (map process_entry ps) k ≡ Some p → p.state ≡ Blocked a ds
+          → Contains r.sleepers (record { pid = k; awaited = awaited_of a })
+      listed_there k p a ds at is = by_seeks (so_far.sought k p a ds at is)
         where
-          at_its_port : (port : ℕ) (o : Option ProcessValue) → state_passes (takes_from port) o ≡ true → awaited_found o ≡ Some (awaits.PacketAt port)
-          at_its_port port None h = absurd (false≢true h)
-          at_its_port port (Some p) h = by_state p.state h
-            where
-              by_state : (t : StateValue) → takes_from port t ≡ true → awaited_in t ≡ Some (awaits.PacketAt port)
-              by_state (Blocked (PacketAt k) ds) h = ap (λ (j : ℕ). Some (awaits.PacketAt j)) (eqb-true k port h)
-              by_state _ h = absurd (false≢true h)
+          by_seeks : Seeks r k (awaited_of a) → Contains r.sleepers (record { pid = k; awaited = awaited_of a })
+          by_seeks (inl crowded) = absurd (false≢true (sym so_far.all ∙ crowded))
+          by_seeks (inr there) = there
 
-          nowhere : (port : ℕ) → is_for port s.awaited ≡ true → takes_at ps port s.pid ≡ false
-          nowhere port its = elim (cases_Bool (takes_at ps port s.pid)) as (λ _. takes_at ps port s.pid ≡ false) [
-            | inl takes_it ↦ absurd (elsewhere (at_its_port port (get (map process_entry ps) s.pid) takes_it ∙ ap Some (sym (at_port port s.awaited its))))
-            | inr out ↦ out
+      -- nobody that is listed has what it waits for
+      pub listed_ends : All (λ s. is_due r.objects s.awaited ≡ false) r.sleepers → (who : Woke) → pids_told who ≡ told → (tells_all who ≡ true → whole ≡ true)
+          → Wakes ps0 r0 first started who ps r b
+      listed_ends none who same all = record {
+        wakes = sym (quiet_wakes ps r so_far.consistent b (λ k p a ds at is.
+            All-contains (λ (s : Sleeper). is_due r.objects s.awaited ≡ false) r.sleepers (record { pid = k; awaited = awaited_of a }) none
+            (listed_there k p a ds at is)) b) ∙ so_far.so_far;
+        consistent = so_far.consistent;
+        list = so_far.list;
+        sought = so_far.sought;
+        ordered = inr so_far.stand;
+        held = so_far.held;
+        none_due = none;
+        told = ends_told first started told whole b so_far.told who same all;
+      }
+
+      -- one is taken off the list
+      module _ (s : Sleeper) (r1 : Objects) (takes : TakesDue r s r1) where
+        taken_world : (c : List ℕ) → world_blocked ps r1 c ≡ world_blocked ps r c
+        taken_world c = ap (λ (y : Objects). world_blocked ps y c) takes.same
+
+        pub taken_consistent : IsConsistent ps r1
+        taken_consistent = beside_consistent ps r r1 (record {
+          objects = ap (λ (y : Objects). each (λ j. bare) y.objects) (sym takes.same);
+          koids = ap (λ (y : Objects). y.next_koid) takes.same;
+        }) so_far.consistent
+
+        taken_all : r1.crowded ≡ false
+        taken_all = ap (λ (y : Objects). y.crowded) takes.same ∙ so_far.all
+
+        still_listed : (k : ℕ) (p : ProcessValue) (a : AwaitedValue) (ds : List ℕ) → get (map process_entry ps) k ≡ Some p → p.state ≡ Blocked a ds
+            → (record { pid = k; awaited = awaited_of a } ≡ s → ⊥) → Contains r1.sleepers (record { pid = k; awaited = awaited_of a })
+        still_listed k p a ds at is apart = takes.others (record { pid = k; awaited = awaited_of a }) apart (listed_there k p a ds at is)
+
+        -- where the test leaves its process out, it is as if that was never listed
+        but_it : (test : ℕ → Bool) (port : ℕ) → (is_for port s.awaited ≡ true → test s.pid ≡ false)
+            → filter test (listed_for r1.sleepers port) ≡ filter test (listed_for r.sleepers port)
+        but_it test port out = sym (ap (filter test) (takes.order port) ∙ elim (cases_Bool (is_for port s.awaited)) as
+            (λ _. filter test (if is_for port s.awaited then s.pid ∷ listed_for r1.sleepers port else listed_for r1.sleepers port)
+            ≡ filter test (listed_for r1.sleepers port)) [ inl its ↦ rw (its, out its) refl | inr other ↦ rw other refl ])
+
+        -- it isn't blocked on that
+        pub sleeper_stays : (awaited_found (get (map process_entry ps) s.pid) ≡ Some s.awaited → ⊥)
+            → IsWakingListed ps0 r0 first started ps r1 b told whole
+        sleeper_stays elsewhere = record {
+          so_far = ap (λ (w : World). fold woken w b) (taken_world b) ∙ so_far.so_far;
+          consistent = taken_consistent;
+          list = so_far.list;
+          sought = λ k p a ds at is. inr (still_listed k p a ds at is (λ same. elsewhere (
+              subst (λ (x : Sleeper). awaited_found (get (map process_entry ps) x.pid) ≡ Some x.awaited) same (rw at (ap awaited_in is))
+              )));
+          stand = λ port. but_it (takes_at ps port) port (nowhere port) ∙ so_far.stand port;
+          all = taken_all;
+          held = so_far.held;
+          told = so_far.told;
+        }
+          where
+            at_its_port : (port : ℕ) (o : Option ProcessValue) → state_passes (takes_from port) o ≡ true → awaited_found o ≡ Some (awaits.PacketAt port)
+            at_its_port port None h = absurd (false≢true h)
+            at_its_port port (Some p) h = by_state p.state h
+              where
+                by_state : (t : StateValue) → takes_from port t ≡ true → awaited_in t ≡ Some (awaits.PacketAt port)
+                by_state (Blocked (PacketAt k) ds) h = ap (λ (j : ℕ). Some (awaits.PacketAt j)) (eqb-true k port h)
+                by_state _ h = absurd (false≢true h)
+
+            nowhere : (port : ℕ) → is_for port s.awaited ≡ true → takes_at ps port s.pid ≡ false
+            nowhere port its = elim (cases_Bool (takes_at ps port s.pid)) as (λ _. takes_at ps port s.pid ≡ false) [
+              | inl takes_it ↦ absurd (elsewhere (at_its_port port (get (map process_entry ps) s.pid) takes_it ∙ ap Some (sym (at_port port s.awaited its))))
+              | inr out ↦ out
+            ]
+
+        -- it wakes
+        module _ (waits : awaited_found (get (map process_entry ps) s.pid) ≡ Some s.awaited) (ps2 : List Process) (r2 : Objects)
+            (wakes_it : WakesOne s.pid true ps r1 ps2 r2) (kept : KeepSleepers r1 r2) where
+          abbrev later : List ℕ
+          later = filter (λ k. not (k == s.pid)) b
+
+          pub stands_once : ◌≡◌ {A = ℕ} (times s.pid b) 1
+          stands_once = so_far.list.once s.pid ∙ rw (blocked_so (get (map process_entry ps) s.pid) s.awaited waits) refl
+
+          first_there : (port : ℕ) → takes_at ps port s.pid ≡ true → slice_get (filter (takes_at ps port) b) 0 ≡ Some s.pid
+          first_there port takes_it =
+              let its : is_for port s.awaited ≡ true = sym (takes_awaited port (get (map process_entry ps) s.pid) s.awaited waits) ∙ takes_it in
+              ap (λ (ks : List ℕ). slice_get ks 0) (sym (so_far.stand port) ∙ ap (filter (takes_at ps port)) (takes.order port)) ∙ rw (its, takes_it) refl
+
+          sorted : AreSorted (world_blocked ps r1 b)
+          sorted = record {
+            processes = passes _ taken_consistent.processes_in_order;
+            objects = passes _ (rw (sorted_seen object_value r1.objects) taken_consistent.kept.in_order);
+          }
+
+          turns : fold woken (world_blocked ps2 r2 later) later ≡ fold woken (world_blocked ps r b) b
+          turns =
+              ap (λ (w : World). fold woken w later) (wakes_it.world b) ∙ (sym (turn_first s.pid b (world_blocked ps r1 b) sorted stands_once first_there)
+              ∙ ap (λ (w : World). fold woken w b) (taken_world b))
+
+          list2 : AreBlocked ps2 later
+          list2 = wakes_it.list b so_far.list
+
+          others : (k : ℕ) → (s.pid == k) ≡ false → get (map process_entry ps2) k ≡ get (map process_entry ps) k
+          others k apart = ap (λ (w : World). get w.processes k) (wakes_it.world b) ∙ other_turn (world_blocked ps r1 b) s.pid k apart
+
+          itself : state_passes is_blocked (get (map process_entry ps2) s.pid) ≡ false
+          itself = elim (cases_Bool (state_passes is_blocked (get (map process_entry ps2) s.pid))) as
+              (λ _. state_passes is_blocked (get (map process_entry ps2) s.pid) ≡ false) [
+                | inl still ↦ absurd (
+                    let once : ◌≡◌ {A = ℕ} (times s.pid later) 1 = list2.once s.pid ∙ rw still refl in
+                    omega (arith, once, times-same s.pid b)
+                    )
+                | inr awake ↦ awake
+              ]
+
+          takes_now : (port k : ℕ) → takes_at ps2 port k ≡ (takes_at ps port k && not (k == s.pid))
+          takes_now port k = elim (cases_Bool (k == s.pid)) as (λ _. takes_at ps2 port k ≡ (takes_at ps port k && not (k == s.pid))) [
+            | inl here ↦ rw here (subst (λ (j : ℕ). takes_at ps2 port j ≡ (takes_at ps port j && false)) (sym (eqb-true k s.pid here))
+                (takes_none ps2 port s.pid itself ∙ sym (and-false (takes_at ps port s.pid))))
+            | inr apart ↦ rw apart (ap (state_passes (takes_from port)) (others k (other_way k s.pid apart)) ∙ sym (and-true (takes_at ps port k)))
           ]
 
-      -- it wakes
-      module _ (waits : awaited_found (get (map process_entry ps) s.pid) ≡ Some s.awaited) (ps2 : List Process) (r2 : Objects)
-          (wakes_it : WakesOne s.pid true ps r1 ps2 r2) (kept : KeepSleepers r1 r2) where
-        abbrev later : List ℕ
-        later = filter (λ k. not (k == s.pid)) b
+          stand2 : StandInOrder ps2 r2 later
+          stand2 port = rw kept.0 (agree (takes_at ps2 port) test (takes_now port) (listed_for r1.sleepers port)
+              ∙ (but_it test port (λ its. out)
+              ∙ (sym (both_filters test (takes_at ps port) first_part (listed_for r.sleepers port))
+              ∙ (ap (filter test) (so_far.stand port)
+              ∙ (both_filters test (takes_at ps port) first_part b
+              ∙ (sym (both_filters test (λ k. not (k == s.pid)) second_part b)
+              ∙ sym (agree (takes_at ps2 port) test (takes_now port) later)))))))
+            where
+              test : ℕ → Bool
+              test k = takes_at ps port k && not (k == s.pid)
 
-        pub stands_once : ◌≡◌ {A = ℕ} (times s.pid b) 1
-        stands_once = so_far.list.once s.pid ∙ rw (blocked_so (get (map process_entry ps) s.pid) s.awaited waits) refl
+              first_part : (k : ℕ) → IsTrue (test k) → IsTrue (takes_at ps port k)
+              first_part k h = (and_parts (takes_at ps port k) (not (k == s.pid)) h).0
 
-        first_there : (port : ℕ) → takes_at ps port s.pid ≡ true → slice_get (filter (takes_at ps port) b) 0 ≡ Some s.pid
-        first_there port takes_it =
-            let its : is_for port s.awaited ≡ true = sym (takes_awaited port (get (map process_entry ps) s.pid) s.awaited waits) ∙ takes_it in
-            ap (λ (ks : List ℕ). slice_get ks 0) (sym (so_far.stand port) ∙ ap (filter (takes_at ps port)) (takes.order port)) ∙ rw (its, takes_it) refl
+              second_part : (k : ℕ) → IsTrue (test k) → IsTrue (not (k == s.pid))
+              second_part k h = (and_parts (takes_at ps port k) (not (k == s.pid)) h).1
 
-        sorted : AreSorted (world_blocked ps r1 b)
-        sorted = record {
-          processes = passes _ taken_consistent.processes_in_order;
-          objects = passes _ (rw (sorted_seen object_value r1.objects) taken_consistent.kept.in_order);
-        }
+              out : test s.pid ≡ false
+              out = sym (takes_now port s.pid) ∙ takes_none ps2 port s.pid itself
 
-        turns : fold woken (world_blocked ps2 r2 later) later ≡ fold woken (world_blocked ps r b) b
-        turns =
-            ap (λ (w : World). fold woken w later) (wakes_it.world b) ∙ (sym (turn_first s.pid b (world_blocked ps r1 b) sorted stands_once first_there)
-            ∙ ap (λ (w : World). fold woken w b) (taken_world b))
+          sought2 : AreSought ps2 r2
+          sought2 k p a ds at is = inr (rw kept.0 (still_listed k p a ds (sym (others k apart) ∙ at) is (λ same.
+              absurd (false≢true (sym apart ∙ eq-eqb s.pid k (ap (λ (x : Sleeper). x.pid) (sym same)))))))
+            where
+              apart : (s.pid == k) ≡ false
+              apart = elim (cases_Bool (s.pid == k)) as (λ _. (s.pid == k) ≡ false) [
+                | inl here ↦ absurd (false≢true (sym itself ∙ subst (λ (j : ℕ). state_passes is_blocked (get (map process_entry ps2) j) ≡ true)
+                    (sym (eqb-true s.pid k here)) (rw (at, is) refl)))
+                | inr other ↦ other
+              ]
 
-        list2 : AreBlocked ps2 later
-        list2 = wakes_it.list b so_far.list
-
-        others : (k : ℕ) → (s.pid == k) ≡ false → get (map process_entry ps2) k ≡ get (map process_entry ps) k
-        others k apart = ap (λ (w : World). get w.processes k) (wakes_it.world b) ∙ other_turn (world_blocked ps r1 b) s.pid k apart
-
-        itself : state_passes is_blocked (get (map process_entry ps2) s.pid) ≡ false
-        itself = elim (cases_Bool (state_passes is_blocked (get (map process_entry ps2) s.pid))) as
-            (λ _. state_passes is_blocked (get (map process_entry ps2) s.pid) ≡ false) [
-              | inl still ↦ absurd (
-                  let once : ◌≡◌ {A = ℕ} (times s.pid later) 1 = list2.once s.pid ∙ rw still refl in
-                  omega (arith, once, times-same s.pid b)
-                  )
-              | inr awake ↦ awake
-            ]
-
-        takes_now : (port k : ℕ) → takes_at ps2 port k ≡ (takes_at ps port k && not (k == s.pid))
-        takes_now port k = elim (cases_Bool (k == s.pid)) as (λ _. takes_at ps2 port k ≡ (takes_at ps port k && not (k == s.pid))) [
-          | inl here ↦ rw here (subst (λ (j : ℕ). takes_at ps2 port j ≡ (takes_at ps port j && false)) (sym (eqb-true k s.pid here))
-              (takes_none ps2 port s.pid itself ∙ sym (and-false (takes_at ps port s.pid))))
-          | inr apart ↦ rw apart (ap (state_passes (takes_from port)) (others k (other_way k s.pid apart)) ∙ sym (and-true (takes_at ps port k)))
-        ]
-
-        stand2 : StandInOrder ps2 r2 later
-        stand2 port = rw kept.0 (agree (takes_at ps2 port) test (takes_now port) (listed_for r1.sleepers port)
-            ∙ (but_it test port (λ its. out)
-            ∙ (sym (both_filters test (takes_at ps port) first_part (listed_for r.sleepers port))
-            ∙ (ap (filter test) (so_far.stand port)
-            ∙ (both_filters test (takes_at ps port) first_part b
-            ∙ (sym (both_filters test (λ k. not (k == s.pid)) second_part b)
-            ∙ sym (agree (takes_at ps2 port) test (takes_now port) later)))))))
-          where
-            test : ℕ → Bool
-            test k = takes_at ps port k && not (k == s.pid)
-
-            first_part : (k : ℕ) → IsTrue (test k) → IsTrue (takes_at ps port k)
-            first_part k h = (and_parts (takes_at ps port k) (not (k == s.pid)) h).0
-
-            second_part : (k : ℕ) → IsTrue (test k) → IsTrue (not (k == s.pid))
-            second_part k h = (and_parts (takes_at ps port k) (not (k == s.pid)) h).1
-
-            out : test s.pid ≡ false
-            out = sym (takes_now port s.pid) ∙ takes_none ps2 port s.pid itself
-
-        sought2 : AreSought ps2 r2
-        sought2 k p a ds at is = inr (rw kept.0 (still_listed k p a ds (sym (others k apart) ∙ at) is (λ same.
-            absurd (false≢true (sym apart ∙ eq-eqb s.pid k (ap (λ (x : Sleeper). x.pid) (sym same)))))))
-          where
-            apart : (s.pid == k) ≡ false
-            apart = elim (cases_Bool (s.pid == k)) as (λ _. (s.pid == k) ≡ false) [
-              | inl here ↦ absurd (false≢true (sym itself ∙ subst (λ (j : ℕ). state_passes is_blocked (get (map process_entry ps2) j) ≡ true)
-                  (sym (eqb-true s.pid k here)) (rw (at, is) refl)))
-              | inr other ↦ other
-            ]
-
-        pub sleeper_wakes : (told2 : List ℕ) (whole2 : Bool) → IsNotedToo s.pid told whole told2 whole2
-            → IsWakingListed ps0 r0 first started ps2 r2 later told2 whole2
-        sleeper_wakes told2 whole2 noted = record {
-          so_far = turns ∙ so_far.so_far;
-          consistent = wakes_it.consistent;
-          list = list2;
-          sought = sought2;
-          stand = stand2;
-          all = kept.1 ∙ taken_all;
-          held = wakes_it.held ∙ so_far.held;
-          told = one_left first started b told whole so_far.told s.pid stands_once later refl told2 whole2 noted;
-        }
+          pub sleeper_wakes : (told2 : List ℕ) (whole2 : Bool) → IsNotedToo s.pid told whole told2 whole2
+              → IsWakingListed ps0 r0 first started ps2 r2 later told2 whole2
+          sleeper_wakes told2 whole2 noted = record {
+            so_far = turns ∙ so_far.so_far;
+            consistent = wakes_it.consistent;
+            list = list2;
+            sought = sought2;
+            stand = stand2;
+            all = kept.1 ∙ taken_all;
+            held = wakes_it.held ∙ so_far.held;
+            told = one_left first started b told whole so_far.told s.pid stands_once later refl told2 whole2 noted;
+          }
 
 -- ---- where perhaps not all are listed
 

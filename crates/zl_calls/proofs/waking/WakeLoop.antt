@@ -6,7 +6,6 @@ use Rattle.zl_calls.proofs.Common.{position_or_len, process_entry, refl, state_p
 use Rattle.zl_calls.proofs.Common.{◌+◌, ◌<◌, ◌==◌, ◌^◌, ◌∙◌, ◌∷◌, ◌≡◌, ◌≤◌}
 use Rattle.std.proofs.lemmas.List.Sums.{fails_before_first}
 use Rattle.zl_code.proofs.Common.{drop_all}
-use Rattle.zl_calls.specs.declared.waking.Woke.TheVariants as woke
 use Rattle.zl_calls.proofs.waking.BlockedLists.{none_filtered}
 use Rattle.zl_calls.proofs.lists.FilterInPlace.{drop_here, drop_out}
 use Rattle.zl_calls.proofs.Common.{AreParted, eq-eqb, option_to_list, pids_told, tells_all, times-other, times-same}
@@ -157,7 +156,8 @@ module _ (ps0 : List Process) (r0 : Objects) (first : List ℕ) (started : Optio
             held = wakes_it.held ∙ so_far.held;
             same_room = so_far.same_room;
             asleep = (same.0 ∙ so_far.asleep.0, same.1 ∙ so_far.asleep.1);
-            told = one_left first started blocked told whole so_far.told pid (one_there ps blocked so_far.list i d pid within at) _ (sym gone) told2 whole2 noted;
+            told = one_left first started blocked told whole so_far.told pid (one_there ps blocked so_far.list i d pid within at) _ (sym gone) told2
+                whole2 noted;
           }
 
       -- it stays blocked

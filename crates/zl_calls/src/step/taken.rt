@@ -1,12 +1,14 @@
 //! What is noted of a call before it is done: the handles that it takes out of its caller's table, with
 //! which registered waits end, and the process that it is to start.
 
-ghost use Rattle.std.specs.Prelude.{ℕ, ◌≡◌, Some, IsTrue, slice_index};
+ghost use Rattle.std.specs.Prelude.{ℕ, ◌≡◌, Some, IfSome, IsTrue, map, slice_index};
 ghost use Rattle.std.specs.List.{All};
 ghost use Rattle.zl_rights.specs.Map.{get};
 ghost use Rattle.zl_code.specs.Request.{site_of};
 ghost use Rattle.zl_code.specs.Tests.{koid_in};
 ghost use Rattle.zl_code.specs.Local.{reg};
+ghost use Rattle.zl_objects.specs.Seen.{object_entry};
+ghost use Rattle.zl_calls.specs.Killed.{ListsTask, is_kill};
 ghost use Rattle.zl_calls.specs.Started.{if_started, is_ok, is_start, tells_start};
 ghost use Rattle.zl_calls.specs.Taken.{IsNoted, NotesFor, has_noted};
 
@@ -16,6 +18,7 @@ use crate::process::Process;
 use smallvec::SmallVec;
 use std::alloc::Global;
 use zl_code::{CallInstr, CallName, Outcome, TraceItem};
+use zl_objects::{Objects, TaskList};
 use zl_rights::{HValue, Koid, Pid, Status};
 use zl_table::Table;
 
@@ -28,12 +31,14 @@ pub struct TakenHandle {
 
 /// Handles of the caller, of the last call behind which they were asked for. There is room for as
 /// many as a call can list in registers; those in places may be more, and where there is no memory for
-/// one more, each counts as noted. Beside them the process that the last `process_start` named, or 0.
+/// one more, each counts as noted. Beside them the process that the last `process_start` named, or 0, and
+/// whom the last `task_kill` may kill.
 #[derive(Drop)]
 pub struct Taken {
     pub handles: SmallVec<TakenHandle, 8>,
     pub all: bool,
     pub started: Pid,
+    pub killed: TaskList,
 }
 
 impl Taken {
@@ -43,7 +48,39 @@ impl Taken {
             handles: SmallVec::new(alloc),
             all: false,
             started: 0,
+            killed: TaskList {
+                koids: Vec::new(alloc),
+                whole: false,
+            },
         }
+    }
+
+    /// Notes the task that the kill names, with what stands below it, of the process at which it stands.
+    /// It takes no memory.
+    pub fn note_task(&mut self, process: &Process, objects: &mut Objects, call: &CallInstr)
+        ensures noted { ListsTask (map object_entry objects.old.objects)
+            (koid_in (get process.now.table.entries
+            (reg process.now.cpu (slice_index call.now.registers 1)))) self.new.killed }
+        ensures rest { self.new ≡ record self.old { killed = self.new.killed } }
+        ensures unchanged { objects.new ≡ objects.old }
+    {
+        self.killed = objects.list_told(named_by(process, call));
+    }
+
+    /// Whom the step may have killed, where the item tells of a kill: what is noted, which is then not
+    /// noted any more.
+    #[inline(always)]
+    pub fn killed_by(&mut self, item: &TraceItem) -> Option<TaskList>
+        ensures { IfSome result (λ list. list ≡ self.old.killed) }
+    {
+        if !tells_kill(item) {
+            return None;
+        }
+        let none = TaskList {
+            koids: Vec::new(*self.killed.koids.allocator()),
+            whole: false,
+        };
+        Some(std::mem::replace(&mut self.killed, none))
     }
 
     /// Notes the process that the start names, of the process at which it stands; 0 where the handle
@@ -54,11 +91,7 @@ impl Taken {
               (reg process.now.cpu (slice_index call.now.registers 1)));
         } }
     {
-        let [_, second, ..] = call.registers;
-        self.started = match live_at::<true>(&process.table, process.cpu.register(second)) {
-            Some((_, entry)) => entry.koid,
-            None => 0,
-        };
+        self.started = named_by(process, call);
     }
 
     /// The process that is noted, where the item tells that it was started.
@@ -124,6 +157,19 @@ impl Taken {
     }
 }
 
+/// The object that the first handle of the call names, of the process at which it stands; 0 where the
+/// handle isn't live.
+fn named_by(process: &Process, call: &CallInstr) -> Koid
+    ensures { result ≡ koid_in (get process.now.table.entries
+        (reg process.now.cpu (slice_index call.now.registers 1))) }
+{
+    let [_, second, ..] = call.registers;
+    match live_at::<true>(&process.table, process.cpu.register(second)) {
+        Some((_, entry)) => entry.koid,
+        None => 0,
+    }
+}
+
 /// Whether the item tells of a start that was answered OK.
 #[inline(always)]
 fn tells_start(item: &TraceItem) -> bool
@@ -133,6 +179,23 @@ fn tells_start(item: &TraceItem) -> bool
         TraceItem::Call { call, outcome, .. } => is_start(*call) && is_ok(*outcome),
         TraceItem::Run { .. } | TraceItem::Stuck { .. } => false,
     }
+}
+
+/// Whether the item tells of a kill.
+#[inline(always)]
+fn tells_kill(item: &TraceItem) -> bool {
+    match item {
+        TraceItem::Call { call, .. } => is_kill(*call),
+        TraceItem::Run { .. } | TraceItem::Stuck { .. } => false,
+    }
+}
+
+/// Whether the call kills.
+#[inline(always)]
+pub fn is_kill(call: CallName) -> bool
+    ensures { result ≡ is_kill call }
+{
+    matches!(call, CallName::TaskKill)
 }
 
 /// Whether the call starts a process.

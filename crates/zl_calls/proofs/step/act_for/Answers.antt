@@ -5,7 +5,7 @@ use Rattle.zl_calls.proofs.processes.Started.{set_started}
 use Rattle.zl_calls.proofs.waking.BlockedLists.{no_more}
 use Rattle.zl_calls.proofs.step.CallSteps.{called_so, caller_ready, goes_from, moves_from, over_from, stays_from, stops_from}
 use Rattle.zl_calls.proofs.step.Performing.{HasActed, HasLeft, here, turn_at, within}
-use Rattle.zl_calls.proofs.step.StepTells.{call_notes}
+use Rattle.zl_calls.proofs.step.StepTells.{call_notes, kill_notes}
 use Rattle.zl_calls.proofs.step.TakenKnown.{ended_acts, ended_own, own_waits}
 use Rattle.zl_calls.proofs.step.AllKnown.{known_behind}
 use Rattle.zl_calls.proofs.waits.TakenEnds.{ended_again}
@@ -217,3 +217,18 @@ returns-in-Some-clause-child c =
     c.in_ok-place.ensures.first c.index.ensures))
     ((c.in-Some.ensures {u = tt}).child c.index.result.now (here c.args.processes.now.list.items c.args.pid c.in_ok-place.place c.index.result.now
     c.in_ok-place.ensures.first c.index.ensures))
+
+pub returns-in-Some-clause-task : goal.returns-in-Some-clause-task
+returns-in-Some-clause-task c =
+    kill_notes c.args.library.now c.args.processes.now.list.items c.args.objects.now c.args.blocked.now.items c.args.pid c.in_ok-place.place c.index.result.now
+    c.in_ok-place.ensures.first c.index.ensures _ _ c.in-Some.call c.in-Some.outcome c.call_next.new.taken
+    ((c.in-Some.ensures {u = tt}).calls c.index.result.now (here c.args.processes.now.list.items c.args.pid c.in_ok-place.place c.index.result.now
+    c.in_ok-place.ensures.first c.index.ensures))
+    ((c.in-Some.ensures {u = tt}).task c.index.result.now (here c.args.processes.now.list.items c.args.pid c.in_ok-place.place c.index.result.now
+    c.in_ok-place.ensures.first c.index.ensures))
+
+pub run_next-requires-clause-no_call : goal.run_next-requires-clause-no_call
+run_next-requires-clause-no_call c =
+    (c.in_default.ensures {u = tt}).missing c.index_mut-process.result.now
+    (here c.args.processes.now.list.items c.args.pid c.in_ok-place.place c.index_mut-process.result.now c.in_ok-place.ensures.first
+    (rw (c.in_default.ensures {u = tt}).same_processes at c.index_mut-process.ensures.value))

@@ -6,7 +6,8 @@ use Rattle.zl_calls.proofs.step.call_next.Goals as goal
 pub returns-then-checked-clause-calls : goal.returns-then-checked-clause-calls
 returns-then-checked-clause-calls c =
     called_among c.args.library.now c.args.processes.now.list.items c.args.objects.now c.args.blocked.now.items c.args.place c.index.result.now
-    c.requires.may.calling.within c.index.ensures c.in-Some.call c.do_sure-outcome.result _ c.in-Some.ensures.found c.do_sure-outcome.ensures.acts
+    c.requires.may.calling.within c.index.ensures c.in-Some.call c.do_sure-outcome.result _ c.in-Some.ensures.found
+    (rw c.note_taken.ensures.unchanged at c.do_sure-outcome.ensures.acts)
 
 pub returns-then-not-has_its_memory-clause-missing : goal.returns-then-not-has_its_memory-clause-missing
 returns-then-not-has_its_memory-clause-missing c p at =
@@ -26,4 +27,5 @@ do_call-outcome-requires-clause-counter c p at =
 pub returns-clause-calls : goal.returns-clause-calls
 returns-clause-calls c =
     called_among c.args.library.now c.args.processes.now.list.items c.args.objects.now c.args.blocked.now.items c.args.place c.index.result.now
-    c.requires.may.calling.within c.index.ensures c.in-Some.call c.do_call-outcome.result _ c.in-Some.ensures.found c.do_call-outcome.ensures.acts
+    c.requires.may.calling.within c.index.ensures c.in-Some.call c.do_call-outcome.result _ c.in-Some.ensures.found
+    (rw c.note_taken-2.ensures.unchanged at c.do_call-outcome.ensures.acts)

@@ -12,7 +12,8 @@ loop-sleeper-init c = rw c.lend_list.ensures.unchanged (
 pub wake_sleeper-requires-clause-consistent : goal.wake_sleeper-requires-clause-consistent
 wake_sleeper-requires-clause-consistent c =
     taken_consistent c.args.processes.now.list.items c.args.objects.now c.args.blocked.now.items c.args.started
-    c.loop-sleeper.processes.list.items c.loop-sleeper.objects c.loop-sleeper.blocked.items c.loop-sleeper.woken.pids.items c.loop-sleeper.woken.whole c.loop-sleeper.invariant.0 c.in-Some.sleeper
+    c.loop-sleeper.processes.list.items c.loop-sleeper.objects c.loop-sleeper.blocked.items c.loop-sleeper.woken.pids.items c.loop-sleeper.woken.whole
+    c.loop-sleeper.invariant.0 c.in-Some.sleeper
     c.take_due.new.self (c.in-Some.ensures {u = tt}).some
 
 pub wake_sleeper-requires-clause-counters : goal.wake_sleeper-requires-clause-counters
@@ -25,7 +26,8 @@ pub remove_pid-requires : goal.remove_pid-requires
 remove_pid-requires c =
     let woke = rw c.if-wake_sleeper.true at c.wake_sleeper.ensures in
     let once = stands_once c.args.processes.now.list.items c.args.objects.now c.args.blocked.now.items c.args.started
-    c.loop-sleeper.processes.list.items c.loop-sleeper.objects c.loop-sleeper.blocked.items c.loop-sleeper.woken.pids.items c.loop-sleeper.woken.whole c.loop-sleeper.invariant.0 c.in-Some.sleeper
+    c.loop-sleeper.processes.list.items c.loop-sleeper.objects c.loop-sleeper.blocked.items c.loop-sleeper.woken.pids.items c.loop-sleeper.woken.whole
+    c.loop-sleeper.invariant.0 c.in-Some.sleeper
     c.take_due.new.self (c.in-Some.ensures {u = tt}).some
     woke.0 c.wake_sleeper.new.processes.list.items c.wake_sleeper.new.objects woke.1 woke.2 in
     omega (arith, once)
@@ -35,7 +37,8 @@ loop-sleeper-preserved-then-wake_sleeper c =
     let woke = rw c.if-wake_sleeper.true at c.wake_sleeper.ensures in
     rw c.remove_pid.ensures.items (
       sleeper_wakes c.args.processes.now.list.items c.args.objects.now c.args.blocked.now.items c.args.started
-          c.loop-sleeper.processes.list.items c.loop-sleeper.objects c.loop-sleeper.blocked.items c.loop-sleeper.woken.pids.items c.loop-sleeper.woken.whole c.loop-sleeper.invariant.0
+          c.loop-sleeper.processes.list.items c.loop-sleeper.objects c.loop-sleeper.blocked.items c.loop-sleeper.woken.pids.items
+          c.loop-sleeper.woken.whole c.loop-sleeper.invariant.0
           c.in-Some.sleeper c.take_due.new.self (c.in-Some.ensures {u = tt}).some
           woke.0 c.wake_sleeper.new.processes.list.items c.wake_sleeper.new.objects woke.1 woke.2 c.note.new.self.pids.items c.note.new.self.whole
           c.note.ensures,
@@ -47,7 +50,8 @@ loop-sleeper-preserved c =
     let stays = rw c.if-wake_sleeper.false at c.wake_sleeper.ensures in
     rw (stays.1, stays.2) (
       sleeper_stays c.args.processes.now.list.items c.args.objects.now c.args.blocked.now.items c.args.started
-          c.loop-sleeper.processes.list.items c.loop-sleeper.objects c.loop-sleeper.blocked.items c.loop-sleeper.woken.pids.items c.loop-sleeper.woken.whole c.loop-sleeper.invariant.0
+          c.loop-sleeper.processes.list.items c.loop-sleeper.objects c.loop-sleeper.blocked.items c.loop-sleeper.woken.pids.items
+          c.loop-sleeper.woken.whole c.loop-sleeper.invariant.0
           c.in-Some.sleeper c.take_due.new.self (c.in-Some.ensures {u = tt}).some stays.0,
       c.loop-sleeper.invariant.1,
     )
@@ -65,6 +69,8 @@ loop-sleeper-smaller c =
 
 pub returns-clause-turns : goal.returns-clause-turns
 returns-clause-turns c =
-    rw (c.told.ensures.unchanged, (c.in_default.ensures {u = tt}).same) (listed_ends c.args.processes.now.list.items c.args.objects.now c.args.blocked.now.items c.args.started
-    c.loop-sleeper.processes.list.items c.loop-sleeper.objects c.loop-sleeper.blocked.items c.loop-sleeper.woken.pids.items c.loop-sleeper.woken.whole c.loop-sleeper.invariant.0
+    rw (c.told.ensures.unchanged, (c.in_default.ensures {u = tt}).same)
+    (listed_ends c.args.processes.now.list.items c.args.objects.now c.args.blocked.now.items c.args.started
+    c.loop-sleeper.processes.list.items c.loop-sleeper.objects c.loop-sleeper.blocked.items c.loop-sleeper.woken.pids.items c.loop-sleeper.woken.whole
+    c.loop-sleeper.invariant.0
     (c.in_default.ensures {u = tt}).none c.told.result c.told.ensures.told c.told.ensures.all)

@@ -11,8 +11,12 @@ push_if-requires c =
     = one_joins c.args.pid c.in-One.other _ (told refl)
     (joining_rises c.args.world.now.world c.args.pid c.args.out.now c.args.ready.now.items c.process_at.ensures.in_order) in
     record {
-      room = omega (arith, c.requires.room, ap length joins,
-          length-append c.args.ready.now.items (joining c.args.world.now.world c.args.pid c.args.out.now c.args.ready.now.items));
+      room = omega (
+        arith,
+        c.requires.room,
+        ap length joins,
+        length-append c.args.ready.now.items (joining c.args.world.now.world c.args.pid c.args.out.now c.args.ready.now.items),
+      );
     }
 
 pub returns-in-Nobody-clause-items : goal.returns-in-Nobody-clause-items

@@ -1,13 +1,14 @@
 use Rattle.zl_calls.proofs.Common.{AreBlocked, List, Seeks, TakesStep, arith, false, false≢true, held, is_local, length, refl, subst, sym, tells_asleep, None}
 use Rattle.zl_calls.proofs.Common.{then_blocked, true, vec_capacity, ℕ, ◌∙◌, ◌≡◌, ◌≤◌}
 use Rattle.zl_objects.specs.declared.awaited.Awaited.{Awaited}
+use Rattle.zl_calls.proofs.Common.{world_blocked}
 use Rattle.zl_calls.specs.Calling.{left_in}
 use Rattle.zl_calls.specs.declared.waking.Woke.TheVariants as woke
 use Rattle.zl_calls.proofs.waking.BlockedLists.{no_more}
 use Rattle.zl_calls.proofs.waking.StillBlocked.{acted_ordered, acted_sought, same_seeks, silent}
 use Rattle.zl_calls.proofs.step.OwnStep.{own_stepped, same_length}
 use Rattle.zl_calls.proofs.step.StepItems.{local_awake, machine_value, local_list, not_ready_in, takes_local}
-use Rattle.zl_calls.proofs.step.StepTells.{tells_local, tells_step}
+use Rattle.zl_calls.proofs.step.StepTells.{tells_local, tells_step, told_killed}
 use Rattle.zl_calls.proofs.step.Whole.{asleep_consistent, fired_known, fired_ordered, nothing_holds, quiet_own, quiet_step, quiet_whole, stepped_whole}
 use Rattle.zl_calls.proofs.step.Whole.{woken_own, woken_step, woken_whole}
 use Rattle.zl_calls.proofs.world.World.step.Goals as goal
@@ -108,13 +109,14 @@ pub returns-then-is_quiet-clause-ran : goal.returns-then-is_quiet-clause-ran
 returns-then-is_quiet-clause-ran c = rw (← c.self.view_is, c.add_blocked.ensures.items)
     (tells_step
     (machine_value c.self.inside.library c.self.inside.processes.list.items c.self.inside.objects c.self.inside.blocked.items) c.args.pid _
-    c.in_ok-item.item c.started_by-started.result c.of.result
+    c.in_ok-item.item c.started_by-started.result c.of-woke.result
     (quiet_step c.self.inside.library c.self.inside.processes.list.items c.self.inside.objects c.self.inside.blocked.items (vec_capacity c.self.inside.blocked)
     c.args.pid c.in_ok-item.item c.self.invariant
     c.act_for.new.processes.list.items c.act_for.new.objects c.act_for.new.objects c.fall_asleep.new.objects
     c.act_for.new.blocked.items c.in_ok-item.ensures.acts c.in_ok-item.ensures.list c.in_ok-item.ensures.fewer c.in_ok-item.ensures.asleep
     (c.in_ok-item.ensures.unheld (sym c.is_local.ensures ∙ c.if-is_local.false)) c.fall_asleep.ensures
-    (c.is_quiet.ensures.waits c.if-is_quiet.true) (c.is_quiet.ensures.sleepers c.if-is_quiet.true) c.started_by-started.result c.of.result c.of.ensures.told)
+    (c.is_quiet.ensures.waits c.if-is_quiet.true) (c.is_quiet.ensures.sleepers c.if-is_quiet.true) c.started_by-started.result c.of-woke.result
+    c.of-woke.ensures.told)
     c.act_for.new.taken c.in_ok-item.ensures.child c.started_by-started.ensures)
 
 pub returns-then-is_quiet-clause-own : goal.returns-then-is_quiet-clause-own
@@ -190,3 +192,15 @@ invariant_of-self-then-is_local c =
     known (λ told. absurd (false≢true (sym none ∙ told))) c.self.invariant.ordered (λ silent_so. c.in_ok-item.ensures.asleep)
     (λ told. absurd (false≢true (sym none ∙ told)))))
     c.act_for.ensures.room
+
+-- ---- whom it may have killed
+
+pub returns-then-is_quiet-clause-killed : goal.returns-then-is_quiet-clause-killed
+returns-then-is_quiet-clause-killed c = rw (← c.self.view_is)
+    (told_killed c.self.inside.library (world_blocked c.self.inside.processes.list.items c.self.inside.objects c.self.inside.blocked.items) c.args.pid
+    c.killed_by-killed.result c.act_for.new.taken.killed c.killed_by-killed.ensures c.in_ok-item.ensures.task)
+
+pub returns-clause-killed : goal.returns-clause-killed
+returns-clause-killed c = rw (← c.self.view_is)
+    (told_killed c.self.inside.library (world_blocked c.self.inside.processes.list.items c.self.inside.objects c.self.inside.blocked.items) c.args.pid
+    c.killed_by-killed.result c.act_for.new.taken.killed c.killed_by-killed.ensures c.in_ok-item.ensures.task)

@@ -1,5 +1,5 @@
 use Rattle.zl_sched.proofs.Common.{GoesFrom, HasRoom, IsAwaited, System, ap, arith, done, length, others_of, requeued, vec_capacity, ◌∙◌, ◌≡◌, ◌≤◌}
-use Rattle.zl_sched.proofs.HandedIn.{absent, accepted_room, accepted_so, accepted_whole, goes_told, requeued_room, requeued_so}
+use Rattle.zl_sched.proofs.HandedIn.{absent, accepted_room, accepted_so, accepted_whole, each_once, goes_told, requeued_room, requeued_so}
 use Rattle.zl_sched.proofs.Held.{held}
 use Rattle.zl_sched.proofs.system.System.accept.Goals as goal
 
@@ -16,6 +16,8 @@ queue-requires c =
     record {
       told = rw (c.pid-pid.ensures, left, c.make_room.ensures.items)
           (goes_told before c.self.invariant.0 c.args.done awaited c.go-change.result.0 c.go-change.new.world c.go-change.new.items.items went);
+      each_once = rw c.make_room.ensures.items
+          (each_once before c.self.invariant.0 c.args.done awaited c.go-change.result.0 c.go-change.new.world c.go-change.new.items.items went);
       apart = rw (c.pid-pid.ensures, c.make_room.ensures.items)
           (absent before c.self.invariant.0 c.args.done awaited c.go-change.result.0 c.go-change.new.world c.go-change.new.items.items went);
       room = rw (c.pid-pid.ensures, left, c.make_room.ensures.items) (omega (arith, room, places));
@@ -36,7 +38,8 @@ invariant_of-self-2 c =
     (c.if-is_err-2.ensures {u = tt}).value c.make_room.ensures.room in
     let fits = accepted_room before c.self.invariant.0 c.args.done awaited c.go-change.result.0 c.go-change.new.world c.go-change.new.items.items went in
     let is = queue ∙ requeued_so before c.self.invariant.0 c.args.done awaited c.go-change.result.0 c.go-change.new.world c.go-change.new.items.items went in (
-      rw (out, c.queue.ensures.world) (accepted_whole before c.self.invariant.0 c.args.done awaited c.go-change.result.0 c.go-change.new.world c.go-change.new.items.items went room
+      rw (out, c.queue.ensures.world) (accepted_whole before c.self.invariant.0 c.args.done awaited c.go-change.result.0 c.go-change.new.world
+          c.go-change.new.items.items went room
           c.queue.new.ready.items queue),
       omega (arith, fits, places, ap length out, ap length is, c.queue.ensures.capacity),
     )

@@ -1,6 +1,6 @@
 use Rattle.zl_sched.proofs.Common.{System, ap, arith, done, false, is_in, length, queued_after, requeued, rules, sym, vec_capacity, ◌≡◌, ◌≤◌}
 use Rattle.zl_sched.proofs.TurnTold.{limit_told, step_told}
-use Rattle.zl_sched.proofs.TurnQueued.{by_requeue, once, places, queue_room, still_whole, told_so}
+use Rattle.zl_sched.proofs.TurnQueued.{by_requeue, each_once, once, places, queue_room, still_whole, told_so}
 use Rattle.zl_sched.proofs.Held.{held}
 use Rattle.zl_sched.proofs.system.System.step.Goals as goal
 
@@ -21,7 +21,10 @@ move_on-requires c =
     let fits = places before c.self.invariant.0 c.args.pid unmarked c.step.new.self c.in-Some.item did.takes in
     record {
       told = rw (c.change_of.ensures, c.deref-2.ensures.value, c.make_room.ensures.items)
-          (told_so before c.self.invariant.0 c.args.pid unmarked c.step.new.self c.in-Some.item did.takes c.in-Some.woke did.tells);
+          (told_so before c.self.invariant.0 c.args.pid unmarked c.step.new.self c.in-Some.item did.takes c.in-Some.told did.tells
+          (c.in-Some.ensures {u = tt}).killed);
+      each_once = rw c.make_room.ensures.items
+          (each_once before c.self.invariant.0 c.args.pid unmarked c.step.new.self c.in-Some.item did.takes);
       once = rw c.make_room.ensures.items (once before c.self.invariant.0 c.args.pid unmarked c.step.new.self c.in-Some.item did.takes);
       room = rw (c.deref-2.ensures.value, c.make_room.ensures.items) (omega (arith, room, fits));
     }

@@ -4,7 +4,7 @@ use crate::order_tests::{RAISES, STARTS, WAITS_FOR_SIGNAL};
 use crate::systems::{AWAITS, CALLS, KILLS, library, statements};
 use std::alloc::Global;
 use std::test::*;
-use zl_calls::{Boot, Woke, World};
+use zl_calls::{Boot, Told, Woke, World};
 use zl_rights::Pid;
 
 /// A world of a process for each text, with the word, the first so many in a job of their own; each but
@@ -34,10 +34,10 @@ const TURNS: [(Pid, Option<Pid>); 6] = [
 /// Each of these processes has a turn, behind which just this one became ready.
 fn tells(world: &mut World, turns: &[(Pid, Option<Pid>)]) -> Result<(), Fail> {
     for (pid, expected) in turns {
-        let Some((_, woke)) = world.step(*pid) else {
+        let Some((_, told)) = world.step(*pid) else {
             return Err(Fail::from("the process isn't ready"));
         };
-        let told = match woke {
+        let told = match told.woke {
             Woke::Nobody => None,
             Woke::One(pid) => Some(pid),
             Woke::Several(_) => return Err(Fail::from("several became ready")),
@@ -74,12 +74,7 @@ fn a_step_tells_whom_it_started(rt: HostRuntime) -> Result<(), Fail> {
 }
 
 /// The third process kills the first, for whose end the second waits.
-const KILLING: [(Pid, Option<Pid>); 4] = [
-    (3, None),
-    (3, None),
-    (4, Some(3)),
-    (3, None),
-];
+const KILLING: [(Pid, Option<Pid>); 4] = [(3, None), (3, None), (4, Some(3)), (3, None)];
 
 #[test]
 fn a_kill_tells_who_woke(rt: HostRuntime) -> Result<(), Fail> {
@@ -100,13 +95,38 @@ fn a_step_tells_all_who_woke(rt: HostRuntime) -> Result<(), Fail> {
     let mut world = world(rt.alloc(), &own, 0)?;
     let blocks = [(4, None), (4, None), (3, None), (3, None), (5, None)];
     tells(&mut world, &blocks)?;
-    let Some((_, Woke::Several(list))) = world.step(5) else {
+    let Some((_, told)) = world.step(5) else {
+        return Err(Fail::from("the process isn't ready"));
+    };
+    let Told { woke, killed: _ } = told;
+    let Woke::Several(list) = woke else {
         return Err(Fail::from("not several became ready"));
     };
-    if !list.whole || list.pids.as_slice() != &[4, 3] {
+    if !list.whole || list.pids.as_slice() != [4, 3].as_slice() {
         return Err(Fail::from("not just these became ready"));
     }
     if list.pids.capacity() < 5 {
+        return Err(Fail::from("there is no room for all"));
+    }
+    Ok(())
+}
+
+/// The third process kills the first: it is told, with its job, and there is room for all processes.
+#[test]
+fn a_kill_tells_whom_it_killed(rt: HostRuntime) -> Result<(), Fail> {
+    let own = [(CALLS, 1), (CALLS, 2), (KILLS, 3)];
+    let mut world = world(rt.alloc(), &own, 0)?;
+    let Some((_, told)) = world.step(4) else {
+        return Err(Fail::from("the process isn't ready"));
+    };
+    let Told { woke: _, killed } = told;
+    let Some(list) = killed else {
+        return Err(Fail::from("nobody is told"));
+    };
+    if !list.whole || !list.koids.contains(&2) || list.koids.contains(&3) {
+        return Err(Fail::from("not just the first process was killed"));
+    }
+    if list.koids.capacity() < 4 {
         return Err(Fail::from("there is no room for all"));
     }
     Ok(())

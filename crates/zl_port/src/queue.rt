@@ -12,8 +12,8 @@ use std::marker::Model;
 
 /// Packets in order, the earliest first.
 ///
-/// Those of waits are counted by source and key, so that a cancellation that finds none needs to
-/// look at none.
+/// Those of waits are counted in buckets by source and key, so that a cancellation looks at none
+/// where its bucket is empty.
 #[derive(Drop)]
 pub(crate) struct Queue {
     packets: VecDeque<Packet>,

@@ -46,7 +46,7 @@ unfoldable pub use Rattle.zl_calls.proofs.policy.Plain.{plain_refusal}
 pub use Rattle.zl_calls.specs.Acted.{Acted, ActsHere, Exits, action_asked}
 pub use Rattle.zl_calls.specs.Acting.{DoesNext, IsActed, StaysAwake, is_local}
 pub use Rattle.zl_calls.specs.Blocked.{AreBlocked, AreLeft, AreOrdered, AreSought, IsWhole, StandInOrder, takes_at, takes_from}
-pub use Rattle.zl_calls.specs.Blocking.{FallsAsleep, awaited_found, awaited_in, tells_asleep, then_blocked}
+pub use Rattle.zl_calls.specs.Blocking.{FallsAsleep, awaited_found, awaited_in, fell_asleep, if_asleep, then_blocked}
 pub use Rattle.zl_calls.specs.Consistent.{AreNamed, IsConsistent, IsNamed}
 pub use Rattle.zl_calls.specs.FieldFaults.{fields_fault, last_fault}
 pub use Rattle.zl_calls.specs.Gives.{Gives, IsBare, allowed, if_default, process_given, rights_if}
@@ -57,12 +57,13 @@ pub use Rattle.zl_calls.specs.Making.{AreSound, IsMaking, IsUnwatched, is_killed
 pub use Rattle.zl_calls.specs.Policed.{EndsBy, IsDenied, Policed, on_fault_by, verdict_by, verdict_in, verdict_on}
 unfoldable pub use Rattle.zl_calls.specs.Policed.{operands_fault}
 pub use Rattle.zl_calls.specs.Reaching.{CallActs, CalledAmong, IsAnsweredIn, IsToldIn, Reaches, acts, creates_process, kills, kills_itself, starts}
-pub use Rattle.zl_calls.specs.Started.{StepsAndTells, child_next, child_of, if_started}
+pub use Rattle.zl_calls.specs.Started.{StepsAndTells, child_next, child_of, has_started, if_started}
 pub use Rattle.zl_calls.specs.Steps.{Performs, StepsTo, TakesStep, takes_memory}
 pub use Rattle.zl_calls.specs.Sure.{CallsSurely, IsFaultless, IsSure, IsSureIfChecked, is_checked}
 pub use Rattle.zl_calls.specs.Taken.{AreKnown, IsKnown, IsNoted, NotesChild, NotesFor, NotesNext, NotesNextChild, NotesStarted, has_noted, is_end, is_gone}
 pub use Rattle.zl_calls.specs.Taken.{NotesNextTask, NotesTask}
-pub use Rattle.zl_calls.specs.Killed.{ListsTask, TellsKilled, task_next, task_of}
+pub use Rattle.zl_calls.specs.Killed.{ListsTask, TellsKilled, keeps_all, keeps_others, task_next, task_of}
+pub use Rattle.zl_calls.specs.Told.{Fits, FitsItem, IsEffect, is_asleep, is_started, killed_of, woke_of}
 pub use Rattle.zl_calls.specs.Taken.{is_over_by, keeps_handles}
 pub use Rattle.zl_calls.specs.Turns.{Stands}
 pub use Rattle.zl_calls.specs.Waking.{HaveCounters, Wakes, WakesOne, WakesSleeper, awake, destinations_of, given_awake, without_taken}
@@ -94,7 +95,8 @@ pub use Rattle.zl_calls.specs.declared.policy.Verdict.{Verdict}
 pub use Rattle.zl_calls.specs.declared.process.Process.{Process}
 pub use Rattle.zl_calls.specs.declared.process.State.{State}
 pub use Rattle.zl_calls.specs.declared.step.taken.Taken.{Taken}
-pub use Rattle.zl_calls.specs.declared.waking.Woke.{Woke}
+pub use Rattle.zl_calls.specs.declared.told.Effect.{Effect}
+pub use Rattle.zl_calls.specs.declared.told.Woke.{Woke}
 pub use Rattle.zl_code.proofs.AwakeRuns.{boot_awake, step_awake}
 pub use Rattle.zl_code.proofs.CallRows.{asks_again, site_named}
 pub use Rattle.zl_code.proofs.CanStart.{can_start}

@@ -1,5 +1,5 @@
 -- Who blocks in a step. No public clause cites this module.
-use Rattle.std.specs.Prelude.{ℕ, ◌≡◌, ◌⊎◌, IsTrue, Bool, true, false, List, [], ◌∷◌, ◌++◌, Option, Some, None, map}
+use Rattle.std.specs.Prelude.{ℕ, ◌≡◌, ◌⊎◌, IsTrue, Bool, true, false, List, [], ◌∷◌, ◌++◌, Option, Some, None, map, if◌then◌else◌}
 use Rattle.zl_rights.specs.Map.{get}
 use Rattle.zl_rights.specs.World.{Process as ProcessValue, State, Blocked}
 use Rattle.zl_objects.specs.Awaited.{KeepSleepers, Seeks}
@@ -18,10 +18,14 @@ abbrev pub then_blocked : ℕ → TraceItem → List ℕ → List ℕ
 then_blocked pid (item.Call at call outcome.Blocked) blocked = blocked ++ (pid ∷ [])
 then_blocked pid _ blocked = blocked
 
+-- the list with the process behind it, if it fell asleep, else the list
+abbrev pub if_asleep : Bool → ℕ → List ℕ → List ℕ
+if_asleep asleep pid blocked = if asleep then blocked ++ (pid ∷ []) else blocked
+
 -- the item tells of a call that blocked
-abbrev pub tells_asleep : TraceItem → Bool
-tells_asleep (item.Call at call outcome.Blocked) = true
-tells_asleep _ = false
+abbrev pub fell_asleep : TraceItem → Bool
+fell_asleep (item.Call at call outcome.Blocked) = true
+fell_asleep _ = false
 
 -- what a process in this state waits for
 abbrev pub awaited_in : State → Option Awaited
@@ -37,12 +41,12 @@ awaited_found (Some p) = awaited_in p.state
 abbrev pub ComesLast : ℕ → Objects → Objects → Awaited → Type 0
 ComesLast pid r r2 a = IsTrue r2.crowded ⊎ ((r2.crowded ≡ r.crowded) × IsUnlisted pid a r.sleepers × ListsLast pid a r.sleepers r2.sleepers)
 
--- but for what the process waits for, all is as before, and if the item tells that it blocked, that is known too
-pub record FallsAsleep (ps : List Process) (pid : ℕ) (x : TraceItem) (r r2 : Objects) : Type 0 where
+-- but for what the process waits for, all is as before, and if it fell asleep, that is known too
+pub record FallsAsleep (ps : List Process) (pid : ℕ) (asleep : Bool) (r r2 : Objects) : Type 0 where
   pub beside : AreBeside r r2
   pub waits : r2.waits ≡ r.waits
   pub made : r2.waits_made ≡ r.waits_made
   pub others : (q : ℕ) (a : Awaited) → Seeks r q a → Seeks r2 q a
-  pub itself : tells_asleep x ≡ true → (a : Awaited) → awaited_found (get (map process_entry ps) pid) ≡ Some a → Seeks r2 pid a
-  pub same : tells_asleep x ≡ false → KeepSleepers r r2
-  pub last : tells_asleep x ≡ true → (a : Awaited) → awaited_found (get (map process_entry ps) pid) ≡ Some a → ComesLast pid r r2 a
+  pub itself : asleep ≡ true → (a : Awaited) → awaited_found (get (map process_entry ps) pid) ≡ Some a → Seeks r2 pid a
+  pub same : asleep ≡ false → KeepSleepers r r2
+  pub last : asleep ≡ true → (a : Awaited) → awaited_found (get (map process_entry ps) pid) ≡ Some a → ComesLast pid r r2 a

@@ -12,6 +12,7 @@ pub mod Own
 pub mod Making
 pub mod Makes
 pub mod Started
+pub mod Told
 pub mod Steps
 pub mod Gives
 pub mod Registered

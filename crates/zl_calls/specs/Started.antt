@@ -14,7 +14,7 @@ use Rattle.zl_rights.specs.declared.status.Status.TheVariants as status
 use Rattle.zl_calls.specs.World.{Machine}
 use Rattle.zl_calls.specs.Steps.{TakesStep}
 use Rattle.zl_calls.specs.Woke.{HaveLeft}
-use Rattle.zl_calls.specs.declared.waking.Woke.{Woke}
+use Rattle.zl_calls.specs.declared.told.Woke.{Woke}
 
 -- ---- who is started
 
@@ -39,13 +39,13 @@ is_ok (outcome.Answered status.Ok) = true
 is_ok _ = false
 
 -- the item tells of a start that was answered OK
-abbrev pub tells_start : TraceItem → Bool
-tells_start (item.Call pid call o) = is_start call && is_ok o
-tells_start _ = false
+abbrev pub has_started : TraceItem → Bool
+has_started (item.Call pid call o) = is_start call && is_ok o
+has_started _ = false
 
 -- the process that was to be started, where the item tells that it was
 abbrev pub if_started : TraceItem → Option ℕ → Option ℕ
-if_started x child = if tells_start x then child else None
+if_started x child = if has_started x then child else None
 
 -- ---- behind a step
 

@@ -22,7 +22,7 @@ use Rattle.zl_calls.specs.Consistent.{IsConsistent}
 use Rattle.zl_calls.specs.Blocked.{AreBlocked, AreOrdered, AreSought}
 use Rattle.zl_calls.specs.Blocking.{awaited_found}
 use Rattle.zl_calls.specs.Woke.{HaveLeft}
-use Rattle.zl_calls.specs.declared.waking.Woke.{Woke}
+use Rattle.zl_calls.specs.declared.told.Woke.{Woke}
 
 -- ---- one process
 

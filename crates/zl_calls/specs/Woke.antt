@@ -3,8 +3,8 @@ use Rattle.std.specs.Prelude.{ℕ, ◌≡◌, ◌+◌, Bool, true, ◌==◌, Lis
 use Rattle.std.specs.List.{filter}
 use Rattle.std.specs.Option.{option_to_list}
 use Rattle.zl_code.specs.declared.history.TraceItem.{TraceItem}
-use Rattle.zl_calls.specs.declared.waking.Woke.{Woke}
-use Rattle.zl_calls.specs.declared.waking.Woke.TheVariants as woke
+use Rattle.zl_calls.specs.declared.told.Woke.{Woke}
+use Rattle.zl_calls.specs.declared.told.Woke.TheVariants as woke
 use Rattle.zl_calls.specs.World.{Machine}
 use Rattle.zl_calls.specs.Steps.{TakesStep}
 

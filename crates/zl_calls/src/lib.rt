@@ -16,10 +16,11 @@ mod policy;
 mod process;
 mod processes;
 mod step;
+mod told;
 mod waits;
 mod waking;
 mod world;
 
-pub use waking::{Told, Woke, WokeList};
+pub use told::{Killed, Told, Woke, WokeList};
 pub use world::{Local, World};
 pub use zl_code::{Boot, BootFault, CallName, Outcome, ProcState, TraceItem};

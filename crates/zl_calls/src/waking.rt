@@ -3,7 +3,7 @@
 
 ghost use Rattle.std.specs.Prelude.{[], ◌≡◌, ◌==◌, ◌<◌, ◌≤◌, ◌^◌, ◌++◌, ◌∷◌, not, true, false, Some, IsTrue, length, map, is_some, slice_get, vec_capacity};
 ghost use Rattle.std.specs.List.{filter, fold, position};
-ghost use Rattle.std.specs.Option.{option_map, option_to_list};
+ghost use Rattle.std.specs.Option.{option_map};
 ghost use Rattle.zl_rights.specs.Map.{get};
 ghost use Rattle.zl_rights.specs.Numbers.{meets};
 ghost use Rattle.zl_rights.specs.Wakes.{packet_values, woken};
@@ -14,148 +14,43 @@ ghost use Rattle.zl_objects.specs.Ports.{changing_port, packets_found};
 ghost use Rattle.zl_objects.specs.Signals.{signals_at};
 ghost use Rattle.zl_port.specs.Packets.{without_front};
 ghost use Rattle.zl_calls.specs.Blocked.{AreBlocked, AreOrdered, AreSought, StandInOrder};
-ghost use Rattle.zl_calls.specs.Blocking.{FallsAsleep, awaited_found, tells_asleep, then_blocked};
+ghost use Rattle.zl_calls.specs.Blocking.{FallsAsleep, awaited_found, if_asleep};
 ghost use Rattle.zl_calls.specs.Consistent.{IsConsistent};
 ghost use Rattle.zl_calls.specs.Waking.{Wakes, WakesOne, WakesSleeper, HaveCounters, awake, awake_in, given_awake, seen_active, without_taken};
-ghost use Rattle.zl_calls.specs.Woke.{HaveLeft, tells_all, pids_told};
+ghost use Rattle.zl_calls.specs.Told.{is_asleep};
+ghost use Rattle.zl_calls.specs.Woke.{HaveLeft};
 ghost use Rattle.zl_rights.specs.World.{Process as ProcessValue};
 ghost use Rattle.zl_calls.specs.Calling.{world_in};
 ghost use Rattle.zl_calls.specs.World.{held, packet_registers, process_entry, signal_registers, state_value};
 
 use crate::process::{Process, Registers, State};
 use crate::processes::Processes;
+use crate::told::{Effect, Woke, WokeList};
 use bitflags::Flags;
-use zl_code::{Outcome, TraceItem};
-use zl_objects::{Awaited, Objects, Sleeper, TaskList};
+use zl_objects::{Awaited, Objects, Sleeper};
 use zl_rights::{Koid, Pid};
 
-/// Who became ready behind a step, but for its process: those that woke, and the one that it started.
-///
-/// Source: own profile.
-#[derive(Drop)]
-pub enum Woke {
-    /// No process.
-    Nobody,
-    /// This process alone.
-    One(Pid),
-    /// These. The world wants their list back (`World::put_back`), as it has the room for the next one.
-    Several(WokeList),
-}
-
-impl Woke {
-    /// Nobody woke; this process was started, if there is one.
-    #[inline(always)]
-    pub(crate) fn of(started: Option<Pid>) -> Woke
-        ensures told { pids_told result ≡ option_to_list started }
-        ensures all { IsTrue (tells_all result) }
-    {
-        match started {
-            Some(pid) => Woke::One(pid),
-            None => Woke::Nobody,
-        }
-    }
-}
-
-/// What a step tells of others than its process.
-///
-/// Source: own profile.
-#[derive(Drop)]
-pub struct Told {
-    /// Who became ready.
-    pub woke: Woke,
-    /// Whom a kill may have killed, and perhaps others; nothing where nobody was killed.
-    pub killed: Option<TaskList>,
-}
-
-/// A list of processes that became ready.
-///
-/// Source: own profile.
-#[derive(Drop)]
-pub struct WokeList {
-    /// Each once, in no order.
-    pub pids: Vec<Pid>,
-    /// Whether all are listed: where there was no room for one more, not all are.
-    pub whole: bool,
-}
-
-impl WokeList {
-    /// The process that was started, if there is one, in this empty list.
-    fn with(list: Vec<Pid>, started: Option<Pid>) -> WokeList
-        requires { list.items ≡ [] }
-        ensures { result.whole ≡ true → result.pids.items ≡ option_to_list started }
-    {
-        let mut woken = WokeList {
-            pids: list,
-            whole: true,
-        };
-        if let Some(pid) = started {
-            woken.note(pid);
-        }
-        woken
-    }
-
-    /// One more, if there is room.
-    fn note(&mut self, pid: Pid)
-        ensures { self.new.whole ≡ true → (self.old.whole ≡ true)
-            × (self.new.pids.items ≡ self.old.pids.items ++ pid ∷ []) }
-    {
-        if self.pids.len() == self.pids.capacity() {
-            self.whole = false;
-            return;
-        }
-        self.pids.push_reserved(pid);
-    }
-
-    /// Who that is; where it is one process or none, the objects get the list back.
-    fn told(self, objects: &mut Objects) -> Woke
-        ensures told { pids_told result ≡ self.pids.items }
-        ensures all { tells_all result ≡ true → self.whole ≡ true }
-        ensures unchanged { objects.new ≡ objects.old }
-    {
-        if !self.whole || self.pids.len() > 1 {
-            return Woke::Several(self);
-        }
-        let first = self.pids.first().copied();
-        objects.return_list(self.pids);
-        Woke::of(first)
-    }
-}
-
-/// The process becomes the last of the blocked, if the item tells of a call that blocked.
-pub fn add_blocked(blocked: &mut Vec<Pid>, pid: Pid, item: &TraceItem)
-    requires room { length (then_blocked pid item.now blocked.old.items)
+/// The process becomes the last of the blocked, if it fell asleep.
+pub fn add_blocked(blocked: &mut Vec<Pid>, pid: Pid, effect: Effect)
+    requires room { length (if_asleep (is_asleep effect) pid blocked.old.items)
         ≤ vec_capacity blocked.old }
-    ensures items { blocked.new.items ≡ then_blocked pid item.now blocked.old.items }
+    ensures items { blocked.new.items ≡ if_asleep (is_asleep effect) pid blocked.old.items }
     ensures capacity { vec_capacity blocked.new ≡ vec_capacity blocked.old }
 {
-    let TraceItem::Call { outcome, .. } = item else {
-        return;
-    };
-    if let Outcome::Blocked = outcome {
+    if effect.is_asleep() {
         blocked.push_reserved(pid);
     }
 }
 
-/// The objects know what the process waits for, if the item tells of a call that blocked. It takes
-/// no memory.
-pub fn fall_asleep(processes: &Processes, objects: &mut Objects, pid: Pid, item: &TraceItem)
-    ensures { FallsAsleep processes.now.list.items pid item.now objects.old objects.new }
+/// The objects know what the process waits for, if it fell asleep. It takes no memory.
+pub fn fall_asleep(processes: &Processes, objects: &mut Objects, pid: Pid, effect: Effect)
+    ensures { FallsAsleep processes.now.list.items pid (is_asleep effect) objects.old objects.new }
 {
-    if !tells_asleep(item) {
+    if !effect.is_asleep() {
         return;
     }
     if let Some(awaited) = awaited_by(processes, pid) {
         objects.sleep(pid, awaited);
-    }
-}
-
-/// Whether the item tells of a call that blocked.
-fn tells_asleep(item: &TraceItem) -> bool
-    ensures { result ≡ tells_asleep item.now }
-{
-    match item {
-        TraceItem::Call { outcome, .. } => matches!(outcome, Outcome::Blocked),
-        TraceItem::Run { .. } | TraceItem::Stuck { .. } => false,
     }
 }
 

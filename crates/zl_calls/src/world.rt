@@ -16,13 +16,15 @@ ghost use Rattle.zl_calls.specs.Own.{StepsOwn};
 ghost use Rattle.zl_calls.specs.Turns.{Fits, IsTurn, advanced, steps_done};
 ghost use Rattle.zl_calls.specs.Started.{StepsAndTells};
 ghost use Rattle.zl_calls.specs.Killed.{TellsKilled};
+ghost use Rattle.zl_calls.specs.Told.{killed_of, woke_of, FitsItem};
 
 use crate::boot::{Made, booted};
 use crate::processes::Processes;
 use crate::step::taken::Taken;
 use crate::step::{act_for, is_local, next_name};
+use crate::told::{Killed, Told, Woke, effect_of};
 use crate::waits::fire_waits;
-use crate::waking::{Told, Woke, add_blocked, fall_asleep, wake};
+use crate::waking::{add_blocked, fall_asleep, wake};
 use std::alloc::{AllocError, Global};
 use std::marker::Model;
 use zl_code::{Boot, BootCause, BootFault, CallName, Image, Outcome, ProcState, TraceItem};
@@ -207,9 +209,9 @@ impl World {
     /// is, as `perform` does, or a local one, as `local` does. Behind a call registered waits end with
     /// their handles, those that hold fire in the order of registration, and blocked processes wake in
     /// the order in which they blocked; behind a local instruction, and where nothing waits at an
-    /// object that the call touched, there are none. It tells the item of the step, and who became ready
-    /// but for the process: whom it started by a `process_start` that is answered OK, and who woke; and behind a kill, whom
-    /// that may have killed.
+    /// object that the call touched, there are none. It tells the item of the step, and what it changed of
+    /// who is ready: whom it started by a `process_start` that is answered OK, and who woke; whether the
+    /// process may have fallen asleep or ended; and behind a kill, whom that may have killed.
     ///
     /// It is the step that the lab itself does, so each new handle gets the value that comes next; but
     /// not where memory was wanted.
@@ -219,9 +221,11 @@ impl World {
     // A run along a schedule calls it for each turn.
     #[inline(always)]
     pub fn step(&mut self, pid: Pid) -> Option<(TraceItem, Told)>
-        ensures ran { IfSome result (λ did. StepsAndTells self.old pid self.new did.0 did.1.woke) }
+        ensures ran { IfSome result
+            (λ did. StepsAndTells self.old pid self.new did.0 (woke_of did.1)) }
         ensures killed { IfSome result (λ did. TellsKilled self.old.programs self.old.world pid
-            did.1.killed) }
+            (killed_of did.1)) }
+        ensures told { IfSome result (λ did. FitsItem did.0 did.1) }
         ensures own { IfSome result (λ did. StepsOwn self.old.programs (own_here self.old) pid
             did.0 (own_here self.new)) }
         ensures not_ready { IfNone result (is_ready_in self.old pid ≡ false) }
@@ -237,19 +241,16 @@ impl World {
             pid,
         )?;
         if is_local(&item) {
-            let told = Told {
-                woke: Woke::Nobody,
-                killed: None,
-            };
-            return Some((item, told));
+            return Some((item, Told::Same));
         }
-        add_blocked(&mut self.blocked, pid, &item);
-        fall_asleep(&self.processes, &mut self.objects, pid, &item);
-        let started = self.taken.started_by(&item);
-        let killed = self.taken.killed_by(&item);
+        let effect = effect_of(&item);
+        add_blocked(&mut self.blocked, pid, effect);
+        fall_asleep(&self.processes, &mut self.objects, pid, effect);
+        let started = effect.started(self.taken.started);
         if self.objects.is_quiet() {
             let woke = Woke::of(started);
-            return Some((item, Told { woke, killed }));
+            let told = Told::of(effect, woke, &mut self.taken);
+            return Some((item, told));
         }
         fire_waits(&self.processes, &mut self.objects);
         let woke = wake(
@@ -259,7 +260,8 @@ impl World {
             started,
         );
         self.objects.calm();
-        Some((item, Told { woke, killed }))
+        let told = Told::of(effect, woke, &mut self.taken);
+        Some((item, told))
     }
 
     /// Keeps the room of the lists in what a step told for the next ones.
@@ -267,10 +269,21 @@ impl World {
     pub fn put_back(&mut self, told: Told)
         ensures { self.new ≡ self.old }
     {
-        let Told { woke, killed } = told;
-        if let Some(list) = killed {
-            self.objects.return_told(list);
+        match told {
+            Told::Same => {}
+            Told::Woke(woke) => self.keep_room(woke),
+            Told::Killed(killed) => {
+                let Killed { tasks, woke } = killed;
+                self.objects.return_told(tasks);
+                self.keep_room(woke);
+            }
         }
+    }
+
+    /// Keeps the room of the list, if there is one.
+    fn keep_room(&mut self, woke: Woke)
+        ensures { self.new ≡ self.old }
+    {
         if let Woke::Several(list) = woke {
             self.objects.return_list(list.pids);
         }

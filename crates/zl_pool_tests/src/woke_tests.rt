@@ -4,7 +4,7 @@ use crate::order_tests::{RAISES, STARTS, WAITS_FOR_SIGNAL};
 use crate::systems::{AWAITS, CALLS, KILLS, library, statements};
 use std::alloc::Global;
 use std::test::*;
-use zl_calls::{Boot, Told, Woke, World};
+use zl_calls::{Boot, Killed, Told, Woke, World};
 use zl_rights::Pid;
 
 /// A world of a process for each text, with the word, the first so many in a job of their own; each but
@@ -37,7 +37,12 @@ fn tells(world: &mut World, turns: &[(Pid, Option<Pid>)]) -> Result<(), Fail> {
         let Some((_, told)) = world.step(*pid) else {
             return Err(Fail::from("the process isn't ready"));
         };
-        let told = match told.woke {
+        let woke = match told {
+            Told::Same => Woke::Nobody,
+            Told::Woke(woke) => woke,
+            Told::Killed(killed) => killed.woke,
+        };
+        let told = match woke {
             Woke::Nobody => None,
             Woke::One(pid) => Some(pid),
             Woke::Several(_) => return Err(Fail::from("several became ready")),
@@ -98,8 +103,7 @@ fn a_step_tells_all_who_woke(rt: HostRuntime) -> Result<(), Fail> {
     let Some((_, told)) = world.step(5) else {
         return Err(Fail::from("the process isn't ready"));
     };
-    let Told { woke, killed: _ } = told;
-    let Woke::Several(list) = woke else {
+    let Told::Woke(Woke::Several(list)) = told else {
         return Err(Fail::from("not several became ready"));
     };
     if !list.whole || list.pids.as_slice() != [4, 3].as_slice() {
@@ -119,8 +123,7 @@ fn a_kill_tells_whom_it_killed(rt: HostRuntime) -> Result<(), Fail> {
     let Some((_, told)) = world.step(4) else {
         return Err(Fail::from("the process isn't ready"));
     };
-    let Told { woke: _, killed } = told;
-    let Some(list) = killed else {
+    let Told::Killed(Killed { tasks: list, .. }) = told else {
         return Err(Fail::from("nobody is told"));
     };
     if !list.whole || !list.koids.contains(&2) || list.koids.contains(&3) {

@@ -23,15 +23,16 @@ pub use Rattle.std.proofs.lemmas.List.Filters.{length-filter_both}
 pub use Rattle.std.specs.List.{filter, flat_map, list_all, list_any, position, position_or_len}
 pub use Rattle.std.specs.Prelude.{slice_get, vec_capacity, ◌&&◌}
 pub use Rattle.zl_calls.proofs.Above.{asked_next, done, none_filtered, removed_one}
-pub use Rattle.zl_calls.specs.Started.{Tells, child_next, child_of, if_started, is_ok, is_start, tells_start}
+pub use Rattle.zl_calls.specs.Started.{Tells, child_next, child_of, if_started, is_ok, is_start, has_started}
 pub use Rattle.zl_calls.specs.Steps.{TakesStep}
 pub use Rattle.zl_calls.specs.Turns.{advanced}
-pub use Rattle.zl_calls.specs.Killed.{TellsKilled, task_next, task_of}
+pub use Rattle.zl_calls.specs.Killed.{TellsKilled, is_kill, keeps_all, keeps_others, spares_others, task_next, task_of}
+pub use Rattle.zl_calls.specs.Told.{FitsItem, killed_of, woke_of}
 pub use Rattle.zl_calls.specs.Woke.{AreParted, pids_told, tells_all}
-pub use Rattle.zl_calls.specs.declared.waking.Told.{Told}
+pub use Rattle.zl_calls.specs.declared.told.Told.{Told}
 pub use Rattle.zl_objects.specs.Below.{is_one_of}
 pub use Rattle.zl_calls.specs.World.{Machine, is_ready_in, seen_in, seen_of, state_in}
-pub use Rattle.zl_calls.specs.declared.waking.Woke.{Woke}
+pub use Rattle.zl_calls.specs.declared.told.Woke.{Woke}
 pub use Rattle.zl_code.proofs.Changes.{times-other, times-same}
 pub use Rattle.zl_code.proofs.SoundRuns.{boot_sound, run_sound, settled_sound, step_sound}
 pub use Rattle.zl_code.specs.CallTable.{awaited_by, entering_at, name_of, process_create, process_start, receiver_of, stored_by, task_kill}
@@ -47,12 +48,10 @@ pub use Rattle.zl_rights.specs.declared.entry.Entry.{Entry}
 pub use Rattle.zl_rights.specs.declared.status.Status.{Status}
 pub use Rattle.zl_sched.specs.Follows.{EndsBy, Follows, StopsBefore, goes, halts, skips, turns_of}
 pub use Rattle.zl_sched.specs.HandIn.{Accepts, Changes, Ends, EndsFrom, GoesFrom, HasRoom, IsAwaited, is_more, put_back, run_items, unmarked}
-pub use Rattle.zl_sched.specs.Queueing.{AreJoining, IsTold, LeaveTold, change_of, few_if, is_nobody, joined_by, joining, joins, leaves_others}
-pub use Rattle.zl_sched.specs.Queueing.{leaves_ready, may_kill}
+pub use Rattle.zl_sched.specs.Queueing.{AreJoining, IsTold, LeaveTold, joined_by, joining, joins}
 pub use Rattle.zl_sched.specs.Queueing.{one_if, requeued, without_ended}
 pub use Rattle.zl_sched.specs.Ready.{Listed, became_ready, is_in, is_ready_or_over, itself_ready, others_of, pids_of, queued_after, ready_by_koid, still_ready}
 pub use Rattle.zl_sched.specs.Ready.{times_in}
 pub use Rattle.zl_sched.specs.System.{Adds, HasBooted, IsLegal, IsWhole, RunsHere, System, Turns, Walks, may_step, room_of}
-pub use Rattle.zl_sched.specs.declared.change.Change.{Change}
 pub use Rattle.zl_sched.specs.declared.system.End.{End}
 pub use Rattle.zl_verify.proofs.CallEnds.{call_ends}

@@ -1,10 +1,10 @@
 -- What is handed in is a legal history more, and the list with its marks behind it is that of the definitions and has room.
-use Rattle.zl_sched.proofs.Common.{Accepts, Bool, Change, Changes, Done, Ends, GoesFrom, HasRoom, IsAwaited, IsLegalHistory, IsSound, IsTold, IsWhole, List}
-use Rattle.zl_sched.proofs.Common.{Listed, Machine, None, State, System, TraceItem, [], advanced, ap, arith, change_of, false, get, if◌then◌else◌, is_in}
+use Rattle.zl_sched.proofs.Common.{Accepts, Bool, Changes, Done, Ends, GoesFrom, HasRoom, IsAwaited, IsLegalHistory, IsSound, IsTold, IsWhole, List}
+use Rattle.zl_sched.proofs.Common.{Listed, Machine, None, State, System, TraceItem, [], advanced, ap, arith, killed_of, Told, false, get, if◌then◌else◌, is_in}
 use Rattle.zl_sched.proofs.Common.{is_more, is_process, is_ready, length, length-append, lives, others_of, pid_of, put_back, queued_after, refl, requeued}
 use Rattle.zl_sched.proofs.Common.{run_items, run_sound, step_sound, subst, sym, times_in, true, unmarked, ℕ, ◌++◌, ◌+◌, ◌==◌, ◌∙◌, ◌∷◌, ◌≡◌, ◌≤◌}
 use Rattle.zl_code.specs.declared.history.TraceItem.TheVariants as item
-use Rattle.zl_sched.specs.declared.change.Change.TheVariants as change
+use Rattle.zl_calls.specs.declared.told.Told.TheVariants as said
 use Rattle.zl_sched.proofs.ReadyChange.{IsChanged, changed, changed_from, unchanged}
 use Rattle.zl_sched.proofs.Fresh.{made_not_ready}
 use Rattle.zl_code.specs.OwnBoot.{own_boot}
@@ -83,14 +83,14 @@ ends_length : (more : Bool) (m : Machine) (p : ℕ) (last : List TraceItem) (m2 
 ends_length true m p last m2 (none, same) = ap length none
 ends_length false m p last m2 (x, is, taken, own) = ap length is
 
-ends_changed : (more : Bool) (m : Machine) (p : ℕ) (last : List TraceItem) (m2 : Machine) (ends : Ends more m p last m2) (c : Change) → IsSound m.world
+ends_changed : (more : Bool) (m : Machine) (p : ℕ) (last : List TraceItem) (m2 : Machine) (ends : Ends more m p last m2) (c : Told) → IsSound m.world
     → is_process m.world is_ready p ≡ true → Changes more m p last m2 ends c → IsChanged m.world p m2.world c
 ends_changed true m p last m2 (none, same) c sound ready is =
-    rw is (subst (λ (x : Machine). IsChanged m.world p x.world change.Nobody) (sym same) (unchanged m.world p ready))
-ends_changed false m p last m2 (x, is, taken, own) c sound ready (who, tells, killed, told) =
-    rw told (subst (λ (k : ℕ). IsChanged m.world k m2.world (change_of x who)) taken.pid_is
-    (changed m.programs m.world (pid_of x) x m2.world sound taken.steps.step who tells
-    (subst (λ (k : ℕ). TellsKilled m.programs m.world k who.killed) (sym taken.pid_is) killed)))
+    rw is (subst (λ (x : Machine). IsChanged m.world p x.world said.Same) (sym same) (unchanged m.world p ready))
+ends_changed false m p last m2 (x, is, taken, own) c sound ready (tells, killed, fits) =
+    subst (λ (k : ℕ). IsChanged m.world k m2.world c) taken.pid_is
+    (changed m.programs m.world (pid_of x) x m2.world sound taken.steps.step c tells
+    (subst (λ (k : ℕ). TellsKilled m.programs m.world k (killed_of c)) (sym taken.pid_is) killed) fits)
 
 pub run_length : (p n : ℕ) → length (run_items p n) ≡ (if n == 0 then 0 else 1)
 run_length p n = by (n == 0)
@@ -102,7 +102,7 @@ run_length p n = by (n == 0)
 -- ---- a process that is out did something
 
 -- it stands here with the first Cpu, and is ready
-module _ (s : System) (whole : IsWhole s) (d : Done) (awaited : IsAwaited s d) (c : Change) (m2 : Machine) (items2 : List TraceItem)
+module _ (s : System) (whole : IsWhole s) (d : Done) (awaited : IsAwaited s d) (c : Told) (m2 : Machine) (items2 : List TraceItem)
     (goes : GoesFrom s.machine s.items d c m2 items2) where
   abbrev mid : Machine
   mid = advanced s.machine d

@@ -1,12 +1,12 @@
 -- The ready list after a step: the code's is that of the definitions, holds each ready process that isn't out once, and has room.
-use Rattle.zl_sched.proofs.Common.{Bool, Change, IsSound, IsTold, IsTrue, List, None, Option, Process, Some, World, ap, append-nil, arith, became_ready}
+use Rattle.zl_sched.proofs.Common.{Bool, Told, IsSound, IsTold, IsTrue, List, None, Option, Process, Some, World, ap, append-nil, arith, became_ready}
 use Rattle.zl_sched.proofs.Common.{cases_Bool, drop, eq-eqb, eqb-true, false, false≢true, filter, filter-append, get, get_or, has_key, if◌then◌else◌, inl, inr}
 use Rattle.zl_sched.proofs.Common.{is_in, is_process, is_ready, is_some, itself_ready, joins, length, length-append, length-filter_both, list_any, nat_lt}
 use Rattle.zl_sched.proofs.Common.{nat_tests, none-some, none_filtered, not, one_if, pids_of, position, position_or_len, queued_after, ready_by_koid, refl}
 use Rattle.zl_sched.proofs.Common.{requeued, slice_get, state_passes, still_ready, subst, suc, sym, take, take-append-drop, take_all, take_more}
 use Rattle.zl_sched.proofs.Common.{times_in, true, ℕ, ◌&&◌, ◌++◌, ◌+◌, ◌-◌, ◌<◌, ◌==◌, ◌∙◌, ◌∷◌, ◌≡◌, ◌≤◌, []}
 use Rattle.std.proofs.lemmas.Map.Views.{any-filter_same}
-use Rattle.zl_sched.specs.declared.change.Change.TheVariants as change
+use Rattle.zl_calls.specs.declared.told.Told.TheVariants as said
 use Rattle.zl_sched.proofs.Common.{LeaveTold, is_one_of}
 use Rattle.zl_objects.specs.declared.below.TaskList.{TaskList}
 use Rattle.zl_sched.proofs.ReadyChange.{IsChanged, OthersCome, StayReady, StayTold}
@@ -258,9 +258,8 @@ module _ (w after : World) (p : ℕ) (list out : List ℕ) (b : Before w after p
           (λ now. key_once k after.processes sound.handles.processes (ready_key after k now)) ∙ (sym (come k apart) ∙ rw apart refl)
 
   -- those of the others leave that were killed
-  left_told : (killed : Option TaskList) → StayTold w p after killed → LeaveTold after p list killed
-  left_told None stay = tt
-  left_told (Some told) stay = λ whole. alike (λ q. is_process after is_ready q && not (q == p)) kept list (by_place whole)
+  left_told : (told : TaskList) → StayTold w p after told → LeaveTold after p list told
+  left_told told stay whole = alike (λ q. is_process after is_ready q && not (q == p)) kept list (by_place whole)
       ∙ sym (both_filters (λ q. not (is_one_of q told.koids.items && not (is_process after is_ready q))) (λ q. not (q == p)) list)
     where
       kept : ℕ → Bool
@@ -279,11 +278,11 @@ module _ (w after : World) (p : ℕ) (list out : List ℕ) (b : Before w after p
             (λ out. stay whole k apart out (in_list k apart some)))
       ]
 
-  pub told : IsSound after → (c : Change) → IsChanged w p after c → IsTold after p out list c
-  told sound change.Nobody (stay, come, ready) =
+  pub told : IsSound after → (all_told : Told) → IsChanged w p after all_told → IsTold after p out list all_told
+  told sound said.Same (stay, come, ready) =
       rw (none_counted _ (joining_is sound [] come), ready) (ap (λ (ks : List ℕ). ks ++ (p ∷ [])) (still stay))
-  told sound (change.Few who) (stay, come) = (still stay, λ all. joining_is sound (pids_told who) (come all))
-  told sound (change.Fewer said) (stay, come) = (left_told said.killed stay, λ all. joining_is sound (pids_told said.woke) (come all))
+  told sound (said.Woke who) (stay, come) = (still stay, λ all. joining_is sound (pids_told who) (come all))
+  told sound (said.Killed killed) (stay, come) = (left_told killed.tasks stay, λ all. joining_is sound (pids_told killed.woke) (come all))
 
 -- the last of a list in which it stands once stays where it is
 pub last_stays : (p : ℕ) (xs : List ℕ) → times_in p (xs ++ (p ∷ [])) ≡ 1 → xs ++ (p ∷ []) ≡ filter (λ q. not (q == p)) (xs ++ (p ∷ [])) ++ (p ∷ [])

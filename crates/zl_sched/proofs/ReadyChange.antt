@@ -1,26 +1,25 @@
 -- What a step changes of who is ready: nobody but those that woke, the one that it started, and those that it killed.
-use Rattle.zl_sched.proofs.Common.{Acts, AtCall, Bool, CallName, Change, IsSound, IsStuck, Library, Moves, Next, None, Option, Outcome, Process}
-use Rattle.zl_sched.proofs.Common.{Ready, Request, Some, State, Step, Tells, TraceItem, Woke, World, and_parts, ap, asked_next, cases_Bool, change_of}
-use Rattle.zl_sched.proofs.Common.{child_next, child_of, eqb-true, false, false≢true, few_if, get, if_started, if◌then◌else◌, inl, inr, is_blocked, is_ok}
-use Rattle.zl_sched.proofs.Common.{is_process, is_ready, is_start, leaves_others, leaves_ready, may_kill, name_of, next_for, none-some, not, not-false}
-use Rattle.zl_sched.proofs.Common.{not-true, refl, refusal, settled_sound, state_passes, step_sound, subst, sym, task_kill, tells_start, true, wakes}
+use Rattle.zl_sched.proofs.Common.{Acts, AtCall, Bool, CallName, FitsItem, IsSound, IsStuck, Library, Moves, Next, None, Option, Outcome, Process}
+use Rattle.zl_sched.proofs.Common.{Ready, Request, Some, State, Step, Tells, TraceItem, Woke, World, and_parts, ap, asked_next, cases_Bool, killed_of}
+use Rattle.zl_sched.proofs.Common.{child_next, child_of, eqb-true, false, false≢true, get, if_started, if◌then◌else◌, inl, inr, is_blocked, is_ok}
+use Rattle.zl_sched.proofs.Common.{is_process, is_ready, is_start, keeps_all, keeps_others, is_kill, name_of, next_for, none-some, not, not-false}
+use Rattle.zl_sched.proofs.Common.{not-true, refl, refusal, settled_sound, state_passes, step_sound, subst, sym, task_kill, has_started, true, wakes}
 use Rattle.zl_sched.proofs.Common.{ℕ, ◌&&◌, ◌==◌, ◌∙◌, ◌≡◌}
 use Rattle.zl_code.specs.declared.history.CallName.TheVariants as name
 use Rattle.zl_code.specs.declared.history.Outcome.TheVariants as outcome
 use Rattle.zl_code.specs.declared.history.TraceItem.TheVariants as item
-use Rattle.zl_calls.specs.declared.waking.Woke.TheVariants as woke
+use Rattle.zl_calls.specs.declared.told.Told.TheVariants as said
 use Rattle.std.specs.Option.{IfSome}
 use Rattle.zl_sched.proofs.Common.{IsTrue, TellsKilled, Told, is_one_of, task_next, task_of}
 use Rattle.zl_code.proofs.Common.{koid_in}
 use Rattle.zl_code.proofs.Common.{is_within}
 use Rattle.zl_objects.specs.declared.below.TaskList.{TaskList}
-use Rattle.zl_sched.specs.declared.change.Change.TheVariants as change
 use Rattle.zl_sched.proofs.ChildReady.{child_ready}
 use Rattle.zl_sched.proofs.StillReady.{AsOrWoken, Left, Less, called_so, ends, goes_on, is_one, killed_so, left_then, less_then, moved, settled_so}
 use Rattle.zl_sched.proofs.StillReady.{spares_so, waking}
 use Rattle.zl_code.proofs.Entering.{no_process}
 use Rattle.zl_verify.proofs.OwnTable.{other_way}
-use Rattle.zl_sched.proofs.Common.{AreParted, List, [], arith, eq-eqb, option_to_list, pids_told, tells_all, is_nobody, times_in, ◌+◌}
+use Rattle.zl_sched.proofs.Common.{AreParted, List, [], arith, eq-eqb, option_to_list, pids_told, spares_others, tells_all, times_in, woke_of, ◌+◌}
 use Rattle.zl_sched.proofs.Common.{◌∷◌}
 
 -- but for p, those stay ready that are
@@ -37,15 +36,15 @@ abbrev pub ToldCome : World → ℕ → World → Woke → Type 0
 ToldCome w p after who = tells_all who ≡ true → OthersCome w p after (pids_told who)
 
 -- the same of those that weren't killed, if these are told
-abbrev pub StayTold : World → ℕ → World → Option TaskList → Type 0
-StayTold w p after killed = IfSome killed (λ told. told.whole ≡ true → (k : ℕ) → (k == p) ≡ false → is_one_of k told.koids.items ≡ false
-    → is_process w is_ready k ≡ true → is_process after is_ready k ≡ true)
+abbrev pub StayTold : World → ℕ → World → TaskList → Type 0
+StayTold w p after killed = killed.whole ≡ true → (k : ℕ) → (k == p) ≡ false → is_one_of k killed.koids.items ≡ false
+    → is_process w is_ready k ≡ true → is_process after is_ready k ≡ true
 
--- the change of a step of p from w to after is so much
-abbrev pub IsChanged : World → ℕ → World → Change → Type 0
-IsChanged w p after change.Nobody = StayReady w p after × OthersCome w p after [] × (is_process after is_ready p ≡ true)
-IsChanged w p after (change.Few who) = StayReady w p after × ToldCome w p after who
-IsChanged w p after (change.Fewer told) = StayTold w p after told.killed × ToldCome w p after told.woke
+-- what a step of p from w to after tells of who is ready is so
+abbrev pub IsChanged : World → ℕ → World → Told → Type 0
+IsChanged w p after said.Same = StayReady w p after × OthersCome w p after [] × (is_process after is_ready p ≡ true)
+IsChanged w p after (said.Woke who) = StayReady w p after × ToldCome w p after who
+IsChanged w p after (said.Killed killed) = StayTold w p after killed.tasks × ToldCome w p after killed.woke
 
 -- likewise from a world in which the others are as ready
 module _ (u w : World) (p : ℕ) (after : World) (same : (k : ℕ) → (k == p) ≡ false → is_process u is_ready k ≡ is_process w is_ready k) where
@@ -55,41 +54,46 @@ module _ (u w : World) (p : ℕ) (after : World) (same : (k : ℕ) → (k == p) 
   stay_from : StayReady u p after → StayReady w p after
   stay_from stay k apart now = stay k apart (same k apart ∙ now)
 
-  told_from : (killed : Option TaskList) → StayTold u p after killed → StayTold w p after killed
-  told_from None stay = tt
-  told_from (Some told) stay = λ whole k apart out now. stay whole k apart out (same k apart ∙ now)
-
-  pub changed_from : (c : Change) → IsChanged u p after c → IsChanged w p after c
-  changed_from change.Nobody (stay, come, ready) = (stay_from stay, come_from [] come, ready)
-  changed_from (change.Few who) (stay, come) = (stay_from stay, λ all. come_from (pids_told who) (come all))
-  changed_from (change.Fewer told) (stay, come) = (told_from told.killed stay, λ all. come_from (pids_told told.woke) (come all))
+  pub changed_from : (all_told : Told) → IsChanged u p after all_told → IsChanged w p after all_told
+  changed_from said.Same (stay, come, ready) = (stay_from stay, come_from [] come, ready)
+  changed_from (said.Woke who) (stay, come) = (stay_from stay, λ all. come_from (pids_told who) (come all))
+  changed_from (said.Killed killed) (stay, come) =
+      (λ whole k apart out now. stay whole k apart out (same k apart ∙ now), λ all. come_from (pids_told killed.woke) (come all))
 
 and_not : (b : Bool) → (b && not b) ≡ false
 and_not true = refl
 and_not false = refl
 
-pub unchanged : (w : World) (p : ℕ) → is_process w is_ready p ≡ true → IsChanged w p w change.Nobody
+pub unchanged : (w : World) (p : ℕ) → is_process w is_ready p ≡ true → IsChanged w p w said.Same
 unchanged w p ready = (λ k apart now. now, λ k apart. rw (and_not (is_process w is_ready k)) refl, ready)
 
-stops_so : (p : ℕ) (call : CallName) (o : Outcome) → goes_on o ≡ false → leaves_ready (item.Call p call o) ≡ false
+stops_so : (p : ℕ) (call : CallName) (o : Outcome) → goes_on o ≡ false → keeps_all (item.Call p call o) ≡ false
 stops_so p call (outcome.Answered answer) stops = absurd (false≢true (sym stops))
 stops_so p call _ stops = refl
 
-spares_more : (x : TraceItem) → leaves_ready x ≡ true → leaves_others x ≡ true
+spares_more : (x : TraceItem) → keeps_all x ≡ true → keeps_others x ≡ true
 spares_more (item.Run p count) leaves = refl
 spares_more (item.Call p call (outcome.Answered answer)) leaves = leaves
 spares_more (item.Call p call _) leaves = absurd (false≢true leaves)
 spares_more (item.Stuck p) leaves = refl
 
 -- a start kills nobody
-start_spares : (x : TraceItem) → tells_start x ≡ true → leaves_others x ≡ true
-start_spares (item.Call p name.ProcessStart o) starts = refl
+start_spares : (x : TraceItem) → has_started x ≡ true → keeps_others x ≡ true
+start_spares (item.Call p name.ProcessStart outcome.Blocked) starts = refl
+start_spares (item.Call p name.ProcessStart (outcome.Answered answer)) starts = refl
+start_spares (item.Call p name.ProcessStart (outcome.Ended code)) starts = refl
 start_spares (item.Call p _ o) starts = absurd (false≢true starts)
 start_spares (item.Run p count) starts = absurd (false≢true starts)
 start_spares (item.Stuck p) starts = absurd (false≢true starts)
 
+-- a call that may end others kills
+kills_so : (call : CallName) (o : Outcome) → spares_others call o ≡ false → is_kill call ≡ true
+kills_so call outcome.Blocked kills = absurd (false≢true (sym kills))
+kills_so call (outcome.Answered answer) kills = not-false (is_kill call) kills
+kills_so call (outcome.Ended code) kills = not-false (is_kill call) kills
+
 -- the call that kills asks for it
-asks_to_kill : (r : Request) → may_kill (name_of r) ≡ true → (task : ℕ) × (r ≡ task_kill task)
+asks_to_kill : (r : Request) → is_kill (name_of r) ≡ true → (task : ℕ) × (r ≡ task_kill task)
 asks_to_kill (task_kill task) kills = (task, refl)
 asks_to_kill _ kills = absurd (false≢true kills)
 
@@ -110,25 +114,25 @@ module _ (lib : Library) (w : World) (p : ℕ) (x : TraceItem) (after : World) (
   abbrev child : Option ℕ
   child = if_started x (child_next step.process.handles (next_for lib step.process))
 
-  acted_so : (k : ℕ) (n : Next) → next_for lib step.process ≡ n → Acts lib w p n x step.acted → leaves_others x ≡ true
-      → is_one (if_started x (child_next step.process.handles n)) k ≡ false → (leaves_ready x ≡ false → (p == k) ≡ false) → Left k step.acted w
+  acted_so : (k : ℕ) (n : Next) → next_for lib step.process ≡ n → Acts lib w p n x step.acted → keeps_others x ≡ true
+      → is_one (if_started x (child_next step.process.handles n)) k ≡ false → (keeps_all x ≡ false → (p == k) ≡ false) → Left k step.acted w
   acted_so k (Moves c) at a others other apart = rw a.1 (moved k w p (λ y. record y { cpu = c }) (λ y. refl))
   acted_so k (AtCall call s) at (o, is, calls) others other apart =
-      let spared : not (may_kill call) ≡ true = sym (ap leaves_others is) ∙ others in
+      let spared : spares_others call o ≡ true = sym (ap keeps_others is) ∙ others in
       called_so k lib w p (no_process w sound) s calls.0 (refusal lib w p s.request) o step.acted
-      (spares_so w p k step.process step.is_there s.request call o (asked_next step.process.cpu call s _ at) (not-true (may_kill call) spared)
+      (spares_so w p k step.process step.is_there s.request call o (asked_next step.process.cpu call s _ at) spared
       (sym (ap (λ (y : TraceItem). is_one (if_started y (child_of step.process.handles s.request)) k) is) ∙ other))
-      (λ stops. apart (ap leaves_ready is ∙ stops_so p call o stops)) calls.1
-  acted_so k IsStuck at a others other apart = rw a.1 (ends k w p _ (apart (ap leaves_ready a.0)))
+      (λ stops. apart (ap keeps_all is ∙ stops_so p call o stops)) calls.1
+  acted_so k IsStuck at a others other apart = rw a.1 (ends k w p _ (apart (ap keeps_all a.0)))
 
-  acted_less : (k : ℕ) → (p == k) ≡ false → (n : Next) → next_for lib step.process ≡ n → Acts lib w p n x step.acted → leaves_others x ≡ false
+  acted_less : (k : ℕ) → (p == k) ≡ false → (n : Next) → next_for lib step.process ≡ n → Acts lib w p n x step.acted → keeps_others x ≡ false
       → Less k step.acted w
-  acted_less k apart (Moves c) at a kills = absurd (false≢true (sym kills ∙ ap leaves_others a.0))
+  acted_less k apart (Moves c) at a kills = absurd (false≢true (sym kills ∙ ap keeps_others a.0))
   acted_less k apart (AtCall call s) at (o, is, calls) kills =
       let (task, asked) = asks_to_kill s.request
-      (ap may_kill (asked_next step.process.cpu call s _ at) ∙ not-false (may_kill call) (sym (ap leaves_others is) ∙ kills)) in
+      (ap is_kill (asked_next step.process.cpu call s _ at) ∙ kills_so call o (sym (ap keeps_others is) ∙ kills)) in
       killed_so k lib w p (no_process w sound) apart s task asked o step.acted calls
-  acted_less k apart IsStuck at a kills = absurd (false≢true (sym kills ∙ ap leaves_others a.0))
+  acted_less k apart IsStuck at a kills = absurd (false≢true (sym kills ∙ ap keeps_others a.0))
 
   settled_is : IsSound step.settled
   settled_is = settled_sound lib w p x step.settled sound (record {
@@ -175,19 +179,19 @@ module _ (lib : Library) (w : World) (p : ℕ) (x : TraceItem) (after : World) (
 
   -- q was started: it is ready now, and wasn't
   module _ (q : ℕ) (some : child ≡ Some q) where
-    told : tells_start x ≡ true
-    told = (if_some (tells_start x) _ q some).0
+    told : has_started x ≡ true
+    told = (if_some (has_started x) _ q some).0
 
     begun : (n : Next) → next_for lib step.process ≡ n → Acts lib w p n x step.acted → child_next step.process.handles n ≡ Some q
         → (is_process step.acted is_ready q ≡ true) × (is_process w is_ready q ≡ false)
     begun (Moves c) at a is_child = absurd (none-some q is_child)
     begun (AtCall call s) at (o, is, calls) is_child =
         child_ready lib w p step.process step.is_there step.is_ready s q is_child o step.acted calls
-        (and_parts (is_start call) (is_ok o) (sym (ap tells_start is) ∙ told)).1
+        (and_parts (is_start call) (is_ok o) (sym (ap has_started is) ∙ told)).1
     begun IsStuck at a is_child = absurd (none-some q is_child)
 
     begins : (is_process step.acted is_ready q ≡ true) × (is_process w is_ready q ≡ false)
-    begins = begun (next_for lib step.process) refl step.acts (if_some (tells_start x) _ q some).1
+    begins = begun (next_for lib step.process) refl step.acts (if_some (has_started x) _ q some).1
 
     settled_ready : is_process step.settled is_ready q ≡ true
     settled_ready = settled_so q step.acted step.settled step.settles is_ready refl refl ∙ begins.0
@@ -230,13 +234,13 @@ module _ (lib : Library) (w : World) (p : ℕ) (x : TraceItem) (after : World) (
 
   -- ---- where it kills nobody
 
-  module _ (others : leaves_others x ≡ true) where
-    same_before : (k : ℕ) → is_one child k ≡ false → (leaves_ready x ≡ false → (p == k) ≡ false) → is_process step.settled is_ready k ≡ is_process w is_ready k
+  module _ (others : keeps_others x ≡ true) where
+    same_before : (k : ℕ) → is_one child k ≡ false → (keeps_all x ≡ false → (p == k) ≡ false) → is_process step.settled is_ready k ≡ is_process w is_ready k
     same_before k other apart =
         left_then k _ _ w (settled_so k step.acted step.settled step.settles)
         (acted_so k (next_for lib step.process) refl step.acts others other apart) is_ready refl refl
 
-    itself : leaves_ready x ≡ true → is_process after is_ready p ≡ true
+    itself : keeps_all x ≡ true → is_process after is_ready p ≡ true
     unfolding is_process
     itself leaves =
         stay_so p (same_before p not_child (λ stops. absurd (false≢true (sym stops ∙ leaves))) ∙ rw (step.is_there, step.is_ready) refl)
@@ -263,15 +267,15 @@ module _ (lib : Library) (w : World) (p : ℕ) (x : TraceItem) (after : World) (
 
   -- ---- where it kills
 
-  module _ (kills : leaves_others x ≡ false) where
+  module _ (kills : keeps_others x ≡ false) where
     less_before : (k : ℕ) → (p == k) ≡ false → Less k step.settled w
     less_before k apart =
         less_then k _ _ w (settled_so k step.acted step.settled step.settles) (acted_less k apart (next_for lib step.process) refl step.acts kills)
 
     starts_none : child ≡ None
-    starts_none = by_test (tells_start x) refl
+    starts_none = by_test (has_started x) refl
       where
-        by_test : (b : Bool) → tells_start x ≡ b → (if b then child_next step.process.handles (next_for lib step.process) else None) ≡ None
+        by_test : (b : Bool) → has_started x ≡ b → (if b then child_next step.process.handles (next_for lib step.process) else None) ≡ None
         by_test true starts = absurd (false≢true (sym kills ∙ start_spares x starts))
         by_test false starts = refl
 
@@ -281,11 +285,11 @@ module _ (lib : Library) (w : World) (p : ℕ) (x : TraceItem) (after : World) (
     spared list tells whole k apart out = by_next (next_for lib step.process) refl step.acts
       where
         by_next : (n : Next) → next_for lib step.process ≡ n → Acts lib w p n x step.acted → Left k step.acted w
-        by_next (Moves c) at a = absurd (false≢true (sym kills ∙ ap leaves_others a.0))
-        by_next IsStuck at a = absurd (false≢true (sym kills ∙ ap leaves_others a.0))
+        by_next (Moves c) at a = absurd (false≢true (sym kills ∙ ap keeps_others a.0))
+        by_next IsStuck at a = absurd (false≢true (sym kills ∙ ap keeps_others a.0))
         by_next (AtCall call s) at (o, is, calls) =
             let (task, asked) = asks_to_kill s.request
-            (ap may_kill (asked_next step.process.cpu call s _ at) ∙ not-false (may_kill call) (sym (ap leaves_others is) ∙ kills)) in
+            (ap is_kill (asked_next step.process.cpu call s _ at) ∙ kills_so call o (sym (ap keeps_others is) ∙ kills)) in
             let named : task_next step.process.handles (next_for lib step.process) ≡ Some (koid_in (get step.process.handles task))
             = ap (task_next step.process.handles) at ∙ ap (task_of step.process.handles) asked in
             let outside : is_within w.objects (koid_in (get step.process.handles task)) k ≡ false
@@ -297,9 +301,8 @@ module _ (lib : Library) (w : World) (p : ℕ) (x : TraceItem) (after : World) (
             not_within true listed = absurd (false≢true (sym out ∙ listed refl))
             not_within false listed = refl
 
-    stays_told : (killed : Option TaskList) → TellsKilled lib w p killed → StayTold w p after killed
-    stays_told None tells = tt
-    stays_told (Some list) tells = λ whole k apart out now.
+    stays_told : (killed : TaskList) → TellsKilled lib w p (Some killed) → StayTold w p after killed
+    stays_told list tells whole k apart out now =
         stay_so k (left_then k _ _ w (settled_so k step.acted step.settled step.settles) (spared list tells whole k (other_way k p apart) out) is_ready
         refl refl ∙ now)
 
@@ -327,28 +330,9 @@ module _ (lib : Library) (w : World) (p : ℕ) (x : TraceItem) (after : World) (
         come_so None list (subst (λ (c : Option ℕ). AreParted step.settled.blocked c list after.blocked) starts_none parted) k refl
         ∙ ap (λ (b : Bool). if b then 1 else 0) (fewer_same k apart)
 
-  pub changed : (all_told : Told) → Tells lib w p x after step all_told.woke → TellsKilled lib w p all_told.killed → IsChanged w p after (change_of x all_told)
-  changed all_told t killed = by_nobody (is_nobody who && leaves_ready x) refl
-    where
-      who : Woke
-      who = all_told.woke
-
-      come : leaves_others x ≡ true → (list : List ℕ) → AreParted step.settled.blocked child list after.blocked → OthersCome w p after list
-      come others list parted = comes_by others child refl list parted
-
-      few_or : (b : Bool) → leaves_others x ≡ b → IsChanged w p after (few_if b all_told)
-      few_or true others = (stays_by others child refl, λ all. come others (pids_told who) (t all))
-      few_or false kills = (stays_told kills all_told.killed killed, λ all. fewer kills (pids_told who) (t all))
-
-      nobody : (v : Woke) → is_nobody v ≡ true → (tells_all v ≡ true → AreParted step.settled.blocked child (pids_told v) after.blocked)
-          → AreParted step.settled.blocked child [] after.blocked
-      nobody woke.Nobody is left = left refl
-      nobody (woke.One pid) is left = absurd (false≢true is)
-      nobody (woke.Several list) is left = absurd (false≢true is)
-
-      by_nobody : (b : Bool) → (is_nobody who && leaves_ready x) ≡ b → IsChanged w p after (if b then change.Nobody else few_if (leaves_others x) all_told)
-      by_nobody true is =
-          let both = and_parts (is_nobody who) (leaves_ready x) is in
-          let others = spares_more x both.1 in
-          (stays_by others child refl, come others [] (nobody who both.0 t), itself others both.1)
-      by_nobody false is = few_or (leaves_others x) refl
+  pub changed : (all_told : Told) → Tells lib w p x after step (woke_of all_told) → TellsKilled lib w p (killed_of all_told) → FitsItem x all_told
+      → IsChanged w p after all_told
+  changed said.Same come tells fits =
+      let others = spares_more x fits in (stays_by others child refl, comes_by others child refl [] (come refl), itself others fits)
+  changed (said.Woke who) come tells fits = (stays_by fits child refl, λ all. comes_by fits child refl (pids_told who) (come all))
+  changed (said.Killed killed) come tells fits = (stays_told fits killed.tasks tells, λ all. fewer fits (pids_told killed.woke) (come all))

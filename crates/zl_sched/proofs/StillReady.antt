@@ -4,12 +4,16 @@ use Rattle.zl_sched.proofs.Common.{None, Object, Option, Outcome, Packet, Packet
 use Rattle.zl_sched.proofs.Common.{State, Status, Values, Wants, World, [], active, after_ok, after_refusal, ap, awaited_by, call_ends, cases_Bool}
 use Rattle.zl_sched.proofs.Common.{child_of, created_process, effect, ended, entering_at, eqb-true, false, false≢true, fired, fold, get, get-each, get-put}
 use Rattle.zl_sched.proofs.Common.{get-update, handle_operands, if_started, if◌then◌else◌, inl, inr, insert_all, is_blocked, is_process, is_within}
-use Rattle.zl_sched.proofs.Common.{lives, made_ready, may_kill, meets, name_of, not, not-true, object_at, ok_outcome, on_object, on_process, option_map}
+use Rattle.zl_sched.proofs.Common.{lives, made_ready, meets, name_of, not, not-true, object_at, ok_outcome, on_object, on_process, option_map}
 use Rattle.zl_sched.proofs.Common.{process_create, process_ended, process_killed, process_settled, process_start, process_with, process_without, receiver_of}
 use Rattle.zl_sched.proofs.Common.{refl, remove_all, replied, row_of, started_with, state_passes, state_without, stored_by, storing, subst, sym, taken}
 use Rattle.zl_sched.proofs.Common.{task_kill, true, waiting, wakes, with_body, with_effect, with_killed, with_object}
 use Rattle.zl_sched.proofs.Common.{without_others, woken_at_port, woken_by, woken_by_first, woken_from, woken_if_there, ℕ, ◌==◌, ◌∙◌, ◌∷◌, ◌≡◌, ◌⊎◌}
 use Rattle.zl_code.proofs.Common.{KILLED, keeping, kept_by, koid_in, new_handles, taken_handles, woken}
+use Rattle.zl_code.specs.CallTable.{ends_caller, outcome_of}
+use Rattle.zl_code.specs.declared.history.CallName.TheVariants as name
+use Rattle.std.specs.Prelude.{ℤ}
+use Rattle.zl_sched.proofs.Common.{spares_others}
 use Rattle.zl_rights.specs.declared.status.Status.TheVariants as status
 use Rattle.zl_code.specs.declared.history.Outcome.TheVariants as outcome
 use Rattle.zl_code.specs.declared.history.TraceItem.TheVariants as item
@@ -109,14 +113,20 @@ spares w p k (process_start process h word) = not (object_at w p process == k)
 spares w p k (task_kill task) = not (is_within w.objects (object_at w p task) k)
 spares w p k r = true
 
+-- one that kills doesn't block
+none_spared : (code : Option ℤ) → spares_others name.TaskKill (outcome_of None code) ≡ true → ⊥
+none_spared None spares = false≢true spares
+none_spared (Some code) spares = false≢true spares
+
 -- so does one whose name kills nobody, where its answer doesn't tell that k was started
 pub spares_so : (w : World) (p k : ℕ) (x : Process) → get w.processes p ≡ Some x → (r : Request) (call : CallName) (o : Outcome) → name_of r ≡ call
-    → may_kill call ≡ false → is_one (if_started (item.Call p call o) (child_of x.handles r)) k ≡ false → o ≡ ok_outcome w p r → spares w p k r ≡ true
+    → spares_others call o ≡ true → is_one (if_started (item.Call p call o) (child_of x.handles r)) k ≡ false → o ≡ ok_outcome w p r → spares w p k r ≡ true
 spares_so w p k x at (process_start process h word) call o named plain apart is =
     let other : (k == koid_in (get x.handles process)) ≡ false
     = (λ i. is_one (if_started (item.Call p (named i) (sym is i)) (child_of x.handles (process_start process h word))) k) ∙ apart in
     rw at (ap not (other_way k (koid_in (get x.handles process)) other))
-spares_so w p k x at (task_kill task) call o named plain apart is = absurd (false≢true (sym plain ∙ ap may_kill (sym named)))
+spares_so w p k x at (task_kill task) call o named plain apart is =
+    absurd (none_spared (ends_caller w p (task_kill task)) ((λ i. spares_others (named i) (sym is i)) ∙ plain))
 spares_so w p k x at _ call o named plain apart is = refl
 
 -- the caller goes on behind its answer

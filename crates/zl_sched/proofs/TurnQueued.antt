@@ -1,8 +1,9 @@
 -- A turn of a ready process that isn't out: the list that the code makes after it is that of the definitions, has room, and keeps the system whole.
-use Rattle.zl_sched.proofs.Common.{IsSound, IsTold, IsWhole, List, Machine, Step, System, TakesStep, Tells, TraceItem, [], arith, change_of, false, is_in}
+use Rattle.zl_sched.proofs.Common.{IsSound, IsTold, IsWhole, List, Machine, Step, System, TakesStep, Tells, TraceItem, [], arith, false, is_in}
 use Rattle.zl_sched.proofs.Common.{length, pid_of, queued_after, requeued, run_sound, step_sound, subst, sym, times_in, ℕ, ◌++◌, ◌+◌, ◌<◌, ◌∙◌, ◌∷◌, ◌≡◌, ◌≤◌}
 use Rattle.zl_calls.specs.Own.{StepsOwn}
 use Rattle.zl_calls.specs.World.{own_here}
+use Rattle.zl_sched.proofs.Common.{FitsItem, killed_of, woke_of}
 use Rattle.zl_sched.proofs.ReadyChange.{IsChanged, changed}
 use Rattle.zl_sched.proofs.Fresh.{made_not_ready}
 use Rattle.zl_sched.proofs.Common.{TellsKilled, Told}
@@ -46,12 +47,12 @@ module _ (s : System) (whole : IsWhole s) (pid : ℕ) (unmarked : is_in pid s.ou
   pub by_requeue : (ready2 : List ℕ) → ready2 ≡ requeued m2.world pid s.out s.ready → ready2 ≡ queued_after s.machine.world pid m2.world s.ready
   by_requeue ready2 is = is ∙ requeued_is s.machine.world m2.world pid s.ready s.out so
 
-  pub told_so : (who : Told) → Tells s.machine.programs s.machine.world (pid_of x) x m2.world taken.steps.step who.woke
-      → TellsKilled s.machine.programs s.machine.world pid who.killed → IsTold m2.world pid s.out s.ready (change_of x who)
-  told_so who tells killed = told s.machine.world m2.world pid s.ready s.out so after_sound (change_of x who)
-      (subst (λ (k : ℕ). IsChanged s.machine.world k m2.world (change_of x who)) taken.pid_is
+  pub told_so : (who : Told) → Tells s.machine.programs s.machine.world (pid_of x) x m2.world taken.steps.step (woke_of who)
+      → TellsKilled s.machine.programs s.machine.world pid (killed_of who) → FitsItem x who → IsTold m2.world pid s.out s.ready who
+  told_so who tells killed fits = told s.machine.world m2.world pid s.ready s.out so after_sound who
+      (subst (λ (k : ℕ). IsChanged s.machine.world k m2.world who) taken.pid_is
       (changed s.machine.programs s.machine.world (pid_of x) x m2.world sound taken.steps.step who tells
-      (subst (λ (k : ℕ). TellsKilled s.machine.programs s.machine.world k who.killed) (sym taken.pid_is) killed)))
+      (subst (λ (k : ℕ). TellsKilled s.machine.programs s.machine.world k (killed_of who)) (sym taken.pid_is) killed) fits))
 
   pub still_whole : StepsOwn s.machine.programs (own_here s.machine) pid x (own_here m2) → (items2 : _) (ready2 : List ℕ) → items2 ≡ s.items ++ (x ∷ [])
       → length s.items < s.limit

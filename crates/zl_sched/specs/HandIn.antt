@@ -12,16 +12,15 @@ use Rattle.zl_calls.specs.World.{Machine, is_ready_in, own_here}
 use Rattle.zl_calls.specs.Steps.{TakesStep}
 use Rattle.zl_calls.specs.Turns.{IsTurn, Fits, advanced, steps_done}
 use Rattle.zl_calls.specs.Started.{Tells}
-use Rattle.zl_calls.specs.declared.waking.Told.{Told}
+use Rattle.zl_calls.specs.declared.told.Told.{Told}
 use Rattle.zl_calls.specs.Killed.{TellsKilled}
 use Rattle.zl_sched.specs.declared.hand_in.HandIn.{HandIn}
 use Rattle.zl_sched.specs.declared.hand_in.HandIn.TheVariants as hand
 use Rattle.zl_sched.specs.declared.hand_in.Judged.{Judged}
 use Rattle.zl_sched.specs.declared.hand_in.Judged.TheVariants as judged
 use Rattle.zl_sched.specs.Ready.{is_in, others_of, queued_after}
-use Rattle.zl_sched.specs.declared.change.Change.{Change}
-use Rattle.zl_sched.specs.declared.change.Change.TheVariants as change
-use Rattle.zl_sched.specs.Queueing.{change_of}
+use Rattle.zl_calls.specs.Told.{FitsItem, killed_of, woke_of}
+use Rattle.zl_calls.specs.declared.told.Told.TheVariants as told
 use Rattle.zl_sched.specs.System.{System}
 
 -- ---- taken out
@@ -124,21 +123,21 @@ Judges s d judged.Other = IsOther s d
 Judges s d judged.Full = IsAwaited s d × LacksRoom s d
 Judges s d judged.Fits = IsAwaited s d × HasRoom s d
 
--- what comes behind the local instructions changes so much of who is ready, as far as its item and what is told beside it say
-abbrev pub Changes : (more : Bool) (m : Machine) (p : ℕ) (last : List TraceItem) (m2 : Machine) → Ends more m p last m2 → Change → Type 0
-Changes true m p last m2 ends c = c ≡ change.Nobody
-Changes false m p last m2 (x, is, taken, own) c = (told : Told) × Tells m.programs m.world (pid_of x) x m2.world taken.steps.step told.woke
-    × TellsKilled m.programs m.world p told.killed × (c ≡ change_of x told)
+-- what comes behind the local instructions tells this of who is ready
+abbrev pub Changes : (more : Bool) (m : Machine) (p : ℕ) (last : List TraceItem) (m2 : Machine) → Ends more m p last m2 → Told → Type 0
+Changes true m p last m2 ends c = c ≡ told.Same
+Changes false m p last m2 (x, is, taken, own) c = Tells m.programs m.world (pid_of x) x m2.world taken.steps.step (woke_of c)
+    × TellsKilled m.programs m.world p (killed_of c) × FitsItem x c
 
--- what comes behind the local instructions, with the trace, and what it changes of who is ready
-pub record EndsFrom (more : Bool) (m : Machine) (items : List TraceItem) (p : ℕ) (c : Change) (m2 : Machine) (items2 : List TraceItem) : Type 0 where
+-- what comes behind the local instructions, with the trace, and what it tells of who is ready
+pub record EndsFrom (more : Bool) (m : Machine) (items : List TraceItem) (p : ℕ) (c : Told) (m2 : Machine) (items2 : List TraceItem) : Type 0 where
   pub last : List TraceItem
   pub items_are : items2 ≡ items ++ last
   pub ends : Ends more m p last m2
   pub changes : Changes more m p last m2 ends c
 
 -- the same with the local instructions before it
-pub record GoesFrom (m : Machine) (items : List TraceItem) (d : Done) (c : Change) (m2 : Machine) (items2 : List TraceItem) : Type 0 where
+pub record GoesFrom (m : Machine) (items : List TraceItem) (d : Done) (c : Told) (m2 : Machine) (items2 : List TraceItem) : Type 0 where
   pub steps : Runs m.programs m.world (steps_done d) (advanced m d).world
   pub last : List TraceItem
   pub items_are : items2 ≡ items ++ (run_items d.pid d.ran ++ last)

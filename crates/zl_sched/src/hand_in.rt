@@ -8,11 +8,10 @@ ghost use Rattle.zl_code.specs.Common.{is_process, lives};
 ghost use Rattle.zl_sched.specs.Ready.{is_in};
 ghost use Rattle.zl_sched.specs.HandIn.{Accepts, EndsFrom, GoesFrom, HandsIn, HasRoom, IsAwaited, Judges, LacksTurn, TakesNone, TakesOne, is_more as ends_with_more, items_of, put_back, run_items, unmarked};
 
-use crate::change::{Change, change_of};
 use crate::ready::{is_out, is_ready, queue, unmark};
 use crate::system::{System, make_room};
 use std::alloc::AllocError;
-use zl_calls::World;
+use zl_calls::{Told, World};
 use zl_code::TraceItem;
 use zl_interp::{Done, Spent, Stop, Turn};
 use zl_rights::Pid;
@@ -162,9 +161,9 @@ impl System {
             return (false, done.spent());
         }
         let pid = done.pid();
-        let (change, spent) = go(&mut self.world, &mut self.items, done);
+        let (told, spent) = go(&mut self.world, &mut self.items, done);
         unmark(&mut self.out, pid);
-        queue(&mut self.ready, &self.out, &mut self.world, pid, change);
+        queue(&mut self.ready, &self.out, &mut self.world, pid, told);
         (true, spent)
     }
 }
@@ -191,7 +190,7 @@ fn is_more(stop: Stop) -> bool
 
 /// The local instructions that were done, and the step behind them, with their items. It tells what
 /// they changed of who is ready.
-fn go(world: &mut World, items: &mut Vec<TraceItem>, done: Done) -> (Change, Spent)
+fn go(world: &mut World, items: &mut Vec<TraceItem>, done: Done) -> (Told, Spent)
     requires ready { IsTrue (is_ready_in world.old done.pid) }
     requires fits { Fits world.old done }
     requires room { length items.old.items + items_of done ≤ vec_capacity items.old }
@@ -206,20 +205,20 @@ fn go(world: &mut World, items: &mut Vec<TraceItem>, done: Done) -> (Change, Spe
 
 /// The step behind the local instructions, unless these are all that was done. It tells what that
 /// changed of who is ready.
-fn end(world: &mut World, items: &mut Vec<TraceItem>, pid: Pid, is_only_local: bool) -> Change
+fn end(world: &mut World, items: &mut Vec<TraceItem>, pid: Pid, is_only_local: bool) -> Told
     requires ready { IsTrue (is_ready_in world.old pid) }
     requires room { length items.old.items + (if is_only_local then 0 else 1)
         ≤ vec_capacity items.old }
     ensures { EndsFrom is_only_local world.old items.old.items pid result world.new items.new.items }
 {
     if is_only_local {
-        return Change::Nobody;
+        return Told::Same;
     }
     let Some((item, told)) = world.step(pid) else {
         unreachable!()
     };
     items.push_reserved(item);
-    change_of(&item, told)
+    told
 }
 
 /// The item of so many local instructions, if there were any.

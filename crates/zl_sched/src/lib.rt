@@ -15,7 +15,6 @@
 //! legal history.
 #![tactic(auto)]
 
-mod change;
 mod fake;
 mod hand_in;
 mod kernel;

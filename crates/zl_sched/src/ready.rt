@@ -9,9 +9,8 @@ ghost use Rattle.zl_calls.specs.World.{is_ready_in};
 ghost use Rattle.zl_sched.specs.Queueing.{AreJoining, IsTold, LeaveTold, joined_by, joining, joins, one_if, requeued, without_ended};
 ghost use Rattle.zl_sched.specs.Ready.{is_in, others_of, ready_by_koid as are_ready_by_koid, still_ready, times_in};
 
-use crate::change::Change;
 use std::alloc::{AllocError, Global};
-use zl_calls::{Told, Woke, WokeList, World};
+use zl_calls::{Killed, Told, Woke, WokeList, World};
 use zl_code::ProcState;
 use zl_objects::TaskList;
 use zl_rights::{Koid, Pid};
@@ -57,10 +56,10 @@ pub fn ready_by_koid(alloc: Global, world: &World) -> Result<Vec<Pid>, AllocErro
     Ok(ready)
 }
 
-/// The list after a step of a process in it that made this change.
+/// The list after a step of a process in it that told this.
 #[inline(always)]
-pub fn move_on(ready: &mut Vec<Pid>, out: &[Pid], world: &mut World, pid: Pid, change: Change)
-    requires told { IsTold world.old.world pid out.now ready.old.items change }
+pub fn move_on(ready: &mut Vec<Pid>, out: &[Pid], world: &mut World, pid: Pid, told: Told)
+    requires told { IsTold world.old.world pid out.now ready.old.items told }
     requires once { length (filter (λ q. q == pid) ready.old.items) ≡ 1 }
     requires each_once { (k : ℕ) → times_in k ready.old.items ≤ 1 }
     requires room { length (requeued world.old.world pid out.now ready.old.items)
@@ -69,19 +68,19 @@ pub fn move_on(ready: &mut Vec<Pid>, out: &[Pid], world: &mut World, pid: Pid, c
     ensures capacity { vec_capacity ready.new ≡ vec_capacity ready.old }
     ensures world { world.new ≡ world.old }
 {
-    match change {
-        Change::Nobody => move_last(ready, pid),
-        Change::Few(woke) => {
+    match told {
+        Told::Same => move_last(ready, pid),
+        Told::Woke(woke) => {
             take_out(ready, pid);
             come(ready, out, world, pid, woke);
         }
-        Change::Fewer(told) => go_fewer(ready, out, world, pid, told),
+        Told::Killed(killed) => go_fewer(ready, out, world, pid, killed),
     }
 }
 
 /// The same for a process that isn't in the list.
-pub fn queue(ready: &mut Vec<Pid>, out: &[Pid], world: &mut World, pid: Pid, change: Change)
-    requires told { IsTold world.old.world pid out.now ready.old.items change }
+pub fn queue(ready: &mut Vec<Pid>, out: &[Pid], world: &mut World, pid: Pid, told: Told)
+    requires told { IsTold world.old.world pid out.now ready.old.items told }
     requires apart { length (filter (λ q. q == pid) ready.old.items) ≡ 0 }
     requires each_once { (k : ℕ) → times_in k ready.old.items ≤ 1 }
     requires room { length (requeued world.old.world pid out.now ready.old.items)
@@ -90,20 +89,20 @@ pub fn queue(ready: &mut Vec<Pid>, out: &[Pid], world: &mut World, pid: Pid, cha
     ensures capacity { vec_capacity ready.new ≡ vec_capacity ready.old }
     ensures world { world.new ≡ world.old }
 {
-    match change {
-        Change::Nobody => ready.push_reserved(pid),
-        Change::Few(woke) => come(ready, out, world, pid, woke),
-        Change::Fewer(told) => go_fewer(ready, out, world, pid, told),
+    match told {
+        Told::Same => ready.push_reserved(pid),
+        Told::Woke(woke) => come(ready, out, world, pid, woke),
+        Told::Killed(killed) => go_fewer(ready, out, world, pid, killed),
     }
 }
 
 /// The same behind a kill; the world gets the list of whom it may have killed back.
 // Apart from the steps that change little, which are nearly all.
 #[inline(never)]
-fn go_fewer(ready: &mut Vec<Pid>, out: &[Pid], world: &mut World, pid: Pid, told: Told)
-    requires told { LeaveTold world.old.world pid ready.old.items told.killed }
+fn go_fewer(ready: &mut Vec<Pid>, out: &[Pid], world: &mut World, pid: Pid, killed: Killed)
+    requires told { LeaveTold world.old.world pid ready.old.items killed.tasks }
     requires joining { AreJoining world.old.world pid out.now
-        (still_ready world.old.world pid ready.old.items) told.woke }
+        (still_ready world.old.world pid ready.old.items) killed.woke }
     requires each_once { (k : ℕ) → times_in k ready.old.items ≤ 1 }
     requires room { length (requeued world.old.world pid out.now ready.old.items)
         ≤ vec_capacity ready.old }
@@ -111,31 +110,27 @@ fn go_fewer(ready: &mut Vec<Pid>, out: &[Pid], world: &mut World, pid: Pid, told
     ensures capacity { vec_capacity ready.new ≡ vec_capacity ready.old }
     ensures world { world.new ≡ world.old }
 {
-    leave(ready, world, pid, &told.killed);
-    let Told { woke, killed } = told;
+    let Killed { tasks, woke } = killed;
+    leave(ready, world, pid, &tasks);
     come(ready, out, world, pid, woke);
     let none = Woke::Nobody;
-    world.put_back(Told { woke: none, killed });
+    world.put_back(Told::Killed(Killed { tasks, woke: none }));
 }
 
 /// The process leaves its place in the list, and so do those that were killed. Where they are told, and
 /// are few, just these are looked for.
-fn leave(ready: &mut Vec<Pid>, world: &World, pid: Pid, killed: &Option<TaskList>)
+fn leave(ready: &mut Vec<Pid>, world: &World, pid: Pid, killed: &TaskList)
     requires told { LeaveTold world.now.world pid ready.old.items killed.now }
     requires each_once { (k : ℕ) → times_in k ready.old.items ≤ 1 }
     ensures items { ready.new.items ≡ still_ready world.now.world pid ready.old.items }
     ensures capacity { vec_capacity ready.new ≡ vec_capacity ready.old }
 {
-    let Some(list) = killed else {
-        keep_ready(ready, world, pid);
-        return;
-    };
-    if !list.whole || list.koids.len() > FEW {
+    if !killed.whole || killed.koids.len() > FEW {
         keep_ready(ready, world, pid);
         return;
     }
     leave_one(ready, pid);
-    leave_each(ready, world, list.koids.as_slice());
+    leave_each(ready, world, killed.koids.as_slice());
 }
 
 /// Those of these that aren't ready leave the list.
@@ -264,10 +259,7 @@ fn join_several(ready: &mut Vec<Pid>, out: &[Pid], world: &mut World, pid: Pid, 
 fn give_back(world: &mut World, list: WokeList)
     ensures { world.new ≡ world.old }
 {
-    world.put_back(Told {
-        woke: Woke::Several(list),
-        killed: None,
-    });
+    world.put_back(Told::Woke(Woke::Several(list)));
 }
 
 /// Each of these comes last, but for the process.

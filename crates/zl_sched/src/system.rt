@@ -7,7 +7,6 @@ ghost use Rattle.zl_sched.specs.Follows.{turns_of};
 ghost use Rattle.zl_sched.specs.Ready.{Listed, is_in};
 ghost use Rattle.zl_sched.specs.System.{AreSafe, HasBooted, IsIdle, IsLegal, Turns, Walks, may_step, room_of};
 
-use crate::change::change_of;
 use crate::ready::{is_out, is_ready, move_on, ready_by_koid};
 use std::alloc::{AllocError, Global};
 use std::marker::Model;
@@ -195,13 +194,7 @@ impl System {
             return Stepped::NotReady;
         };
         self.items.push(item).unwrap();
-        move_on(
-            &mut self.ready,
-            &self.out,
-            &mut self.world,
-            pid,
-            change_of(&item, told),
-        );
+        move_on(&mut self.ready, &self.out, &mut self.world, pid, told);
         Stepped::Ran
     }
 

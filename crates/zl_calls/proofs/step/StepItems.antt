@@ -13,7 +13,7 @@ use Rattle.zl_code.specs.declared.instr.Instr.{Instr}
 use Rattle.zl_code.specs.declared.instr.Instr.TheVariants as instr
 use Rattle.zl_code.specs.Steps.{moves, next_of, next_in}
 use Rattle.zl_code.proofs.Stepping.{wanting_step}
-use Rattle.zl_calls.specs.declared.waking.Woke.TheVariants as woke
+use Rattle.zl_calls.specs.declared.told.Woke.TheVariants as woke
 use Rattle.zl_calls.proofs.Common.{HaveLeft, option_to_list, pids_told, times_among, Option, None, List, arith, ap, subst, sym}
 
 -- ---- the process that acts, and the item

@@ -12,7 +12,9 @@ use Rattle.zl_calls.proofs.Common.{NotesNextTask, TellsKilled, stands_next, task
 use Rattle.zl_code.specs.CallTable.{task_kill}
 use Rattle.zl_interp.specs.Common.{call_here}
 use Rattle.zl_objects.specs.declared.below.TaskList.{TaskList}
-use Rattle.zl_calls.proofs.Common.{HaveLeft}
+use Rattle.zl_calls.proofs.Common.{Bool, Effect, Fits, FitsItem, HaveLeft, IsEffect, if◌then◌else◌, is_started}
+use Rattle.zl_calls.specs.declared.told.Told.{Told}
+use Rattle.zl_calls.specs.declared.told.Told.TheVariants as told
 
 -- what is so of a start is so of the item
 same_started : (pid : ℕ) (n : CallName) (o : Outcome) (a b : Option ℕ) → (n ≡ name.ProcessStart → a ≡ b)
@@ -75,6 +77,18 @@ pub told_killed : (lib : Library) (w : World) (p : ℕ) (told : Option TaskList)
 told_killed lib w p None list is tells = tt
 told_killed lib w p (Some t) list is tells = subst (λ (x : TaskList). TellsKilled lib w p (Some x)) (sym is) tells
 
+-- what fits the effect fits the item
+pub fits_item : (x : TraceItem) (e : Effect) (told : Told) → IsEffect x e → Fits e told → FitsItem x told
+fits_item x e told.Same is fits = sym is.stays ∙ fits
+fits_item x e (told.Woke who) is fits = sym is.spares ∙ fits
+fits_item x e (told.Killed killed) is fits = sym is.spares ∙ fits
+
+-- behind a local instruction the same are ready
+pub local_fits : (x : TraceItem) → is_local x ≡ true → FitsItem x told.Same
+local_fits (item.Run pid count) local = refl
+local_fits (item.Call pid n o) local = absurd (cc)
+local_fits (item.Stuck pid) local = absurd (cc)
+
 -- a local instruction starts nobody
 pub local_starts : (x : TraceItem) (child : Option ℕ) → is_local x ≡ true → if_started x child ≡ None
 local_starts (item.Run pid count) child local = refl
@@ -90,9 +104,11 @@ module _ (m : Machine) (pid : ℕ) (m2 : Machine) (x : TraceItem) (started : Opt
     tells = subst (λ (c : Option ℕ). HaveLeft did.takes.steps.step.settled.blocked c woke m2.world.blocked) (sym same) did.left;
   }
 
-  pub tells_step : (t : Taken) → NotesStarted m.programs m.world pid x t → started ≡ if_started x (Some t.started) → StepsAndTells m pid m2 x woke
-  tells_step t noted is = tells_by (noted did.takes.steps.step.process
-      (subst (λ (k : ℕ). get m.world.processes k ≡ Some did.takes.steps.step.process) did.takes.pid_is did.takes.steps.step.is_there) ∙ sym is)
+  pub tells_step : (t : Taken) → NotesStarted m.programs m.world pid x t → (e : Effect) → IsEffect x e
+      → started ≡ (if is_started e then Some t.started else None) → StepsAndTells m pid m2 x woke
+  tells_step t noted e effect is = tells_by (noted did.takes.steps.step.process
+      (subst (λ (k : ℕ). get m.world.processes k ≡ Some did.takes.steps.step.process) did.takes.pid_is did.takes.steps.step.is_there)
+      ∙ sym (is ∙ ap (λ (b : Bool). if b then Some t.started else None) effect.started))
 
   pub tells_local : is_local x ≡ true → started ≡ None → StepsAndTells m pid m2 x woke
   tells_local local none = tells_by (local_starts x _ local ∙ sym none)

@@ -4,7 +4,7 @@ use Rattle.zl_calls.proofs.Common.{KeepSleepers, Library, List, Objects, Process
 use Rattle.zl_calls.proofs.Common.{awaited_of, false, fired, holds_now, is_due, length, list_any, own_beside, refl, sym, then_blocked, wakes, world_blocked}
 use Rattle.zl_calls.proofs.Common.{world_left, ℕ, ◌∙◌, ◌≡◌, ◌≤◌}
 use Rattle.zl_objects.specs.declared.awaited.Awaited.{Awaited}
-use Rattle.zl_calls.specs.declared.waking.Woke.TheVariants as woke
+use Rattle.zl_calls.specs.declared.told.Woke.TheVariants as woke
 use Rattle.zl_calls.proofs.objects.SameButWaits.{beside_consistent}
 use Rattle.zl_calls.proofs.step.Covered.{stepped_covered}
 use Rattle.zl_calls.proofs.step.OwnStep.{own_stepped}
@@ -12,7 +12,7 @@ use Rattle.zl_calls.proofs.step.StepItems.{machine_value, stepped_awake, stepped
 use Rattle.zl_calls.proofs.waking.Ordered.{same_ordered}
 use Rattle.zl_calls.proofs.waking.Quiet.{none_holding, quiet_fires, quiet_wakes}
 use Rattle.zl_calls.proofs.waking.StillBlocked.{acted_ordered, acted_sought, asleep_world, moved_last, same_seeks}
-use Rattle.zl_calls.proofs.Common.{Option, None, option_to_list, pids_told}
+use Rattle.zl_calls.proofs.Common.{Option, None, fell_asleep, option_to_list, pids_told}
 
 module _ (lib : Library) (ps : List Process) (r : Objects) (b : List ℕ) (room : ℕ) (pid : ℕ) (x : TraceItem) (whole : IsWhole lib ps r b room) where
   -- a step leads to such a world again
@@ -34,7 +34,7 @@ module _ (lib : Library) (ps : List Process) (r : Objects) (b : List ℕ) (room 
   -- the process has acted, waits have ended with their handles, and what it waits for is known
   module _ (ps1 : List Process) (r1 left asleep : Objects) (b1 : List ℕ)
       (does : DoesNext lib (world_blocked ps r b) pid x (world_left ps1 r1 (then_blocked pid x b1))) (list : AreBlocked ps1 (then_blocked pid x b1))
-      (left_so : AreLeft b b1) (kept : KeepSleepers r r1) (unheld : EndsUnheld ps1 r1 left) (falls : FallsAsleep ps1 pid x left asleep) where
+      (left_so : AreLeft b b1) (kept : KeepSleepers r r1) (unheld : EndsUnheld ps1 r1 left) (falls : FallsAsleep ps1 pid (fell_asleep x) left asleep) where
     pub asleep_consistent : IsConsistent ps1 asleep
     asleep_consistent = beside_consistent ps1 left asleep falls.beside unheld.consistent
 
@@ -68,7 +68,7 @@ module _ (lib : Library) (ps : List Process) (r : Objects) (b : List ℕ) (room 
         still =
             woken_to ps1 ps1 r1 left asleep asleep (then_blocked pid x b1) (then_blocked pid x b1) unheld
             ((quiet_fires ps1 asleep asleep_consistent none).world (then_blocked pid x b1)
-            ∙ ap fired (asleep_world ps1 pid x left asleep falls (then_blocked pid x b1)))
+            ∙ ap fired (asleep_world ps1 pid (fell_asleep x) left asleep falls (then_blocked pid x b1)))
             (sym (quiet_wakes ps1 asleep asleep_consistent (then_blocked pid x b1) (λ k p a ds at is. quiet k (awaited_of a) (known k p a ds at is))
             (then_blocked pid x b1)))
 
@@ -91,7 +91,7 @@ module _ (lib : Library) (ps : List Process) (r : Objects) (b : List ℕ) (room 
         (started : Option ℕ) (w : Woke) (wakes_so : Wakes ps1 fires (then_blocked pid x b1) started w ps2 r2 b2) where
       awake_so : world_blocked ps2 r2 b2 ≡ wakes (world_left ps1 r1 (then_blocked pid x b1))
       awake_so = woken_to ps1 ps2 r1 left fires r2 (then_blocked pid x b1) b2 unheld
-          (fired_so.world (then_blocked pid x b1) ∙ ap fired (asleep_world ps1 pid x left asleep falls (then_blocked pid x b1))) wakes_so.wakes
+          (fired_so.world (then_blocked pid x b1) ∙ ap fired (asleep_world ps1 pid (fell_asleep x) left asleep falls (then_blocked pid x b1))) wakes_so.wakes
 
       pub woken_own : DoesOwn lib (own_beside ps r b) pid x (world_left ps1 r1 (then_blocked pid x b1)) ps1
           → StepsOwn lib (own_beside ps r b) pid x (own_beside ps2 r2 b2)

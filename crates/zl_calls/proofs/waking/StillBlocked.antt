@@ -3,7 +3,8 @@ use Rattle.zl_calls.proofs.Common.{AreBlocked, AreLeft, AreOrdered, AreSameButSl
 use Rattle.zl_calls.proofs.Common.{IsUnlisted, KeepSleepers, Library, List, ListsLast, None, Objects, Option, Process, ProcessValue, Seeks, Sleeper, Some}
 use Rattle.zl_calls.proofs.Common.{StateValue, TraceItem, [], ap, arith, awaited_found, awaited_in, awaited_of, bare, cases_Bool, each, eqb-true, false}
 use Rattle.zl_calls.proofs.Common.{false≢true, filter, filter-append, get, if◌then◌else◌, inl, inr, is_blocked, is_for, is_local, knowing, koid_of, listed_for}
-use Rattle.zl_calls.proofs.Common.{lives, map, other_way, process_entry, refl, same_Some, slept, state_passes, state_value, subst, sym, takes_at, tells_asleep}
+use Rattle.zl_calls.proofs.Common.{lives, map, other_way, process_entry, refl, same_Some, slept, state_passes, state_value, subst, sym, takes_at, fell_asleep}
+use Rattle.zl_calls.proofs.Common.{Effect, IsEffect, if_asleep, is_asleep}
 use Rattle.zl_calls.proofs.Common.{then_blocked, times, times-behind, times-last, true, world_blocked, world_left, ℕ, ◌++◌, ◌==◌, ◌∙◌, ◌∷◌, ◌≡◌, ◌≤◌, ◌⊎◌}
 use Rattle.std.proofs.lemmas.List.{append-nil}
 use Rattle.zl_rights.specs.World.{Awaited as AwaitedValue}
@@ -54,9 +55,9 @@ module _ (ps : List Process) (blocked : List ℕ) (are : AreBlocked ps blocked) 
 
 -- ---- the objects come to know
 
-module _ (ps : List Process) (pid : ℕ) (x : TraceItem) where
-  pub not_asleep : (r : Objects) → (tells_asleep x ≡ true → (a : Awaited) → awaited_found (get (map process_entry ps) pid) ≡ Some a → ⊥)
-      → FallsAsleep ps pid x r r
+module _ (ps : List Process) (pid : ℕ) (asleep : Bool) where
+  pub not_asleep : (r : Objects) → (asleep ≡ true → (a : Awaited) → awaited_found (get (map process_entry ps) pid) ≡ Some a → ⊥)
+      → FallsAsleep ps pid asleep r r
   not_asleep r none = record {
     beside = beside_same r;
     waits = refl;
@@ -69,7 +70,7 @@ module _ (ps : List Process) (pid : ℕ) (x : TraceItem) where
 
   pub known_asleep : (r r2 : Objects) (a : Awaited) → awaited_found (get (map process_entry ps) pid) ≡ Some a → Seeks r2 pid a
       → ((q : ℕ) (b : Awaited) → Seeks r q b → Seeks r2 q b)
-      → ComesLast pid r r2 a → AreSameButSleepers (knowing r (koid_of a)) r2 → tells_asleep x ≡ true → FallsAsleep ps pid x r r2
+      → ComesLast pid r r2 a → AreSameButSleepers (knowing r (koid_of a)) r2 → asleep ≡ true → FallsAsleep ps pid asleep r r2
   known_asleep r r2 a awaited there others order same told = record {
     beside = record {
       objects = one_bare r.objects (koid_of a) slept (λ o. refl) ∙ ap (λ (y : Objects). each (λ j. bare) y.objects) (sym same);
@@ -84,7 +85,7 @@ module _ (ps : List Process) (pid : ℕ) (x : TraceItem) where
   }
 
   -- the world is the same
-  pub asleep_world : (r r2 : Objects) → FallsAsleep ps pid x r r2 → (b : List ℕ) → world_blocked ps r2 b ≡ world_blocked ps r b
+  pub asleep_world : (r r2 : Objects) → FallsAsleep ps pid asleep r r2 → (b : List ℕ) → world_blocked ps r2 b ≡ world_blocked ps r b
   asleep_world r r2 falls b = λ i. record (beside_world ps r r2 falls.beside i) { waits = falls.waits i; waits_made = falls.made i; blocked = b }
 
 -- ---- one that acts
@@ -111,20 +112,28 @@ blocked_lives (Blocked a ds) h = refl
 blocked_lives _ h = absurd (false≢true h)
 
 -- a process doesn't stand behind others where the item tells of none
-then_same : (pid : ℕ) (x : TraceItem) (blocked : List ℕ) → tells_asleep x ≡ false → then_blocked pid x blocked ≡ blocked
+then_same : (pid : ℕ) (x : TraceItem) (blocked : List ℕ) → fell_asleep x ≡ false → then_blocked pid x blocked ≡ blocked
 then_same pid (item.Call at call outcome.Blocked) blocked none = absurd (false≢true (sym none))
 then_same pid _ blocked none = refl
 
 -- it does where the item tells of one
-then_last : (pid : ℕ) (x : TraceItem) (blocked : List ℕ) → tells_asleep x ≡ true → then_blocked pid x blocked ≡ blocked ++ pid ∷ []
+then_last : (pid : ℕ) (x : TraceItem) (blocked : List ℕ) → fell_asleep x ≡ true → then_blocked pid x blocked ≡ blocked ++ pid ∷ []
 then_last pid (item.Call at call outcome.Blocked) blocked told = refl
 then_last pid _ blocked told = absurd (false≢true told)
 
 -- an item that tells of a local instruction tells of none that blocked
-pub silent : (x : TraceItem) → is_local x ≡ true → tells_asleep x ≡ false
+pub silent : (x : TraceItem) → is_local x ≡ true → fell_asleep x ≡ false
 silent (item.Run at count) local = refl
 silent (item.Call at call o) local = absurd (false≢true local)
 silent (item.Stuck at) local = absurd (false≢true local)
+
+-- so the list is behind its effect
+pub then_asleep : (pid : ℕ) (x : TraceItem) (e : Effect) → IsEffect x e → (blocked : List ℕ) → if_asleep (is_asleep e) pid blocked ≡ then_blocked pid x blocked
+then_asleep pid x e is blocked = ap (λ (b : Bool). if_asleep b pid blocked) is.asleep ∙ by_test (fell_asleep x) refl
+  where
+    by_test : (b : Bool) → fell_asleep x ≡ b → if_asleep (fell_asleep x) pid blocked ≡ then_blocked pid x blocked
+    by_test true told = rw told (sym (then_last pid x blocked told))
+    by_test false silent = rw silent (sym (then_same pid x blocked silent))
 
 then_other : (pid k : ℕ) (apart : (pid == k) ≡ false) (x : TraceItem) (blocked : List ℕ) → ◌≡◌ {A = ℕ} (times k (then_blocked pid x blocked)) (times k blocked)
 then_other pid k apart (item.Call at call outcome.Blocked) blocked = times-behind pid k apart blocked
@@ -134,13 +143,13 @@ module _ (lib : Library) (ps ps2 : List Process) (r r1 r2 : Objects) (b b2 : Lis
     (does : DoesNext lib (world_blocked ps r b) pid x (world_left ps2 r1 (then_blocked pid x b2))) (before : AreBlocked ps b)
     (after : AreBlocked ps2 (then_blocked pid x b2))
     (left : AreLeft b b2) (sought : AreSought ps r) (others : (k : ℕ) (a : Awaited) → Seeks r k a → Seeks r2 k a)
-    (itself : tells_asleep x ≡ true → (a : Awaited) → awaited_found (get (map process_entry ps2) pid) ≡ Some a → Seeks r2 pid a) where
+    (itself : fell_asleep x ≡ true → (a : Awaited) → awaited_found (get (map process_entry ps2) pid) ≡ Some a → Seeks r2 pid a) where
   -- it is ready before, and so not among the blocked
   not_listed : ◌≡◌ {A = ℕ} (times pid b) 0
   not_listed = before.once pid ∙ rw (does.acted.is_there, does.acted.is_ready) refl
 
   -- where the item tells that it blocked it waits for something
-  told_awaits : tells_asleep x ≡ true → (a : Awaited) × (awaited_found (get (map process_entry ps2) pid) ≡ Some a)
+  told_awaits : fell_asleep x ≡ true → (a : Awaited) × (awaited_found (get (map process_entry ps2) pid) ≡ Some a)
   told_awaits told = by_process (get (map process_entry ps2) pid) (is_there ps2 (then_blocked pid x b2) after pid
       (let last : ◌≡◌ {A = ℕ} (times pid (then_blocked pid x b2)) 1 =
       ap (times pid) (then_last pid x b2 told) ∙ times-last pid b2 (none_left) in omega (arith, last)))
@@ -157,9 +166,9 @@ module _ (lib : Library) (ps ps2 : List Process) (r r1 r2 : Objects) (b b2 : Lis
       by_process (Some p) h = by_state p.state h
 
   own : (p : ProcessValue) (a : AwaitedValue) (ds : List ℕ) → get (map process_entry ps2) pid ≡ Some p → p.state ≡ Blocked a ds → Seeks r2 pid (awaited_of a)
-  own p a ds at is = by_test (cases_Bool (tells_asleep x))
+  own p a ds at is = by_test (cases_Bool (fell_asleep x))
     where
-      by_test : IsTrue (tells_asleep x) ⊎ (tells_asleep x ≡ false) → Seeks r2 pid (awaited_of a)
+      by_test : IsTrue (fell_asleep x) ⊎ (fell_asleep x ≡ false) → Seeks r2 pid (awaited_of a)
       by_test (inl told) = itself told (awaited_of a) (rw at (ap awaited_in is))
       by_test (inr silent) =
           let once : ◌≡◌ {A = ℕ} (times pid (then_blocked pid x b2)) 1 = stands_once ps2 (then_blocked pid x b2) after pid p a ds at is in
@@ -196,7 +205,7 @@ module _ (lib : Library) (ps ps2 : List Process) (r r1 r2 : Objects) (b b2 : Lis
 
   -- ---- and the order in which they blocked
 
-  silent_list : tells_asleep x ≡ false → then_blocked pid x b2 ≡ b2
+  silent_list : fell_asleep x ≡ false → then_blocked pid x b2 ≡ b2
   silent_list none = then_same pid x b2 none
 
   module _ (port : ℕ) where
@@ -227,7 +236,7 @@ module _ (lib : Library) (ps ps2 : List Process) (r r1 r2 : Objects) (b b2 : Lis
         omega (arith, once, then_other pid k (other_way k pid apart) x b2)
 
     module _ (stand : filter (takes_at ps port) (listed_for r.sleepers port) ≡ filter (takes_at ps port) b) where
-      pub silent_order : tells_asleep x ≡ false → filter (takes_at ps2 port) (listed_for r.sleepers port) ≡ filter (takes_at ps2 port) (then_blocked pid x b2)
+      pub silent_order : fell_asleep x ≡ false → filter (takes_at ps2 port) (listed_for r.sleepers port) ≡ filter (takes_at ps2 port) (then_blocked pid x b2)
       silent_order none =
           stays_in_order ps ps2 pid port b b2 other_was left other_stands (listed_for r.sleepers port) stand out
           ∙ ap (λ (ks : List ℕ). filter (takes_at ps2 port) ks) (sym (silent_list none))
@@ -242,7 +251,7 @@ module _ (lib : Library) (ps ps2 : List Process) (r r1 r2 : Objects) (b b2 : Lis
             | inr nowhere ↦ nowhere
           ]
 
-      pub told_order : tells_asleep x ≡ true → (a : Awaited) → awaited_found (get (map process_entry ps2) pid) ≡ Some a → IsUnlisted pid a r.sleepers
+      pub told_order : fell_asleep x ≡ true → (a : Awaited) → awaited_found (get (map process_entry ps2) pid) ≡ Some a → IsUnlisted pid a r.sleepers
           → (sleepers2 : List Sleeper) → ListsLast pid a r.sleepers sleepers2
           → filter (takes_at ps2 port) (listed_for sleepers2 port) ≡ filter (takes_at ps2 port) (then_blocked pid x b2)
       told_order told a is unlisted sleepers2 last = elim (cases_Bool (is_for port a)) as
@@ -262,18 +271,18 @@ module _ (lib : Library) (ps ps2 : List Process) (r r1 r2 : Objects) (b b2 : Lis
           told_list = then_last pid x b2 told
 
   -- of those that are listed for packets of a port those that are blocked there stand in this order
-  pub acted_ordered : AreOrdered ps r b → (tells_asleep x ≡ false → KeepSleepers r r2)
-      → (tells_asleep x ≡ true → (a : Awaited) → awaited_found (get (map process_entry ps2) pid) ≡ Some a → ComesLast pid r r2 a)
+  pub acted_ordered : AreOrdered ps r b → (fell_asleep x ≡ false → KeepSleepers r r2)
+      → (fell_asleep x ≡ true → (a : Awaited) → awaited_found (get (map process_entry ps2) pid) ≡ Some a → ComesLast pid r r2 a)
       → AreOrdered ps2 r2 (then_blocked pid x b2)
-  acted_ordered ordered same last = by_test (cases_Bool (tells_asleep x))
+  acted_ordered ordered same last = by_test (cases_Bool (fell_asleep x))
     where
-      by_order : tells_asleep x ≡ true → (a : Awaited) → awaited_found (get (map process_entry ps2) pid) ≡ Some a → ComesLast pid r r2 a → AreOrdered ps r b
+      by_order : fell_asleep x ≡ true → (a : Awaited) → awaited_found (get (map process_entry ps2) pid) ≡ Some a → ComesLast pid r r2 a → AreOrdered ps r b
           → AreOrdered ps2 r2 (then_blocked pid x b2)
       by_order told a is (inl crowded) o = inl crowded
       by_order told a is (inr order) (inl crowded) = inl (order.0 ∙ crowded)
       by_order told a is (inr order) (inr stand) = inr (λ port. told_order port (stand port) told a is order.1 r2.sleepers order.2)
 
-      by_test : IsTrue (tells_asleep x) ⊎ (tells_asleep x ≡ false) → AreOrdered ps2 r2 (then_blocked pid x b2)
+      by_test : IsTrue (fell_asleep x) ⊎ (fell_asleep x ≡ false) → AreOrdered ps2 r2 (then_blocked pid x b2)
       by_test (inr silent) = same_ordered ps2 r r2 (then_blocked pid x b2) (same silent) (by_silent ordered)
         where
           by_silent : AreOrdered ps r b → AreOrdered ps2 r (then_blocked pid x b2)

@@ -1,7 +1,7 @@
 //! What is noted of a call before it is done: the handles that it takes out of its caller's table, with
 //! which registered waits end, and the process that it is to start.
 
-ghost use Rattle.std.specs.Prelude.{ℕ, ◌≡◌, Some, IfSome, IsTrue, map, slice_index};
+ghost use Rattle.std.specs.Prelude.{ℕ, ◌≡◌, IsTrue, map, slice_index};
 ghost use Rattle.std.specs.List.{All};
 ghost use Rattle.zl_rights.specs.Map.{get};
 ghost use Rattle.zl_code.specs.Request.{site_of};
@@ -9,7 +9,7 @@ ghost use Rattle.zl_code.specs.Tests.{koid_in};
 ghost use Rattle.zl_code.specs.Local.{reg};
 ghost use Rattle.zl_objects.specs.Seen.{object_entry};
 ghost use Rattle.zl_calls.specs.Killed.{ListsTask, is_kill};
-ghost use Rattle.zl_calls.specs.Started.{if_started, is_ok, is_start, tells_start};
+ghost use Rattle.zl_calls.specs.Started.{is_start};
 ghost use Rattle.zl_calls.specs.Taken.{IsNoted, NotesFor, has_noted};
 
 use crate::calls::channel::writing::sent_places;
@@ -17,9 +17,9 @@ use crate::calls::handle::live_at;
 use crate::process::Process;
 use smallvec::SmallVec;
 use std::alloc::Global;
-use zl_code::{CallInstr, CallName, Outcome, TraceItem};
+use zl_code::{CallInstr, CallName};
 use zl_objects::{Objects, TaskList};
-use zl_rights::{HValue, Koid, Pid, Status};
+use zl_rights::{HValue, Koid, Pid};
 use zl_table::Table;
 
 /// A handle of the caller: its value, and the object that it names.
@@ -67,20 +67,15 @@ impl Taken {
         self.killed = objects.list_told(named_by(process, call));
     }
 
-    /// Whom the step may have killed, where the item tells of a kill: what is noted, which is then not
-    /// noted any more.
-    #[inline(always)]
-    pub fn killed_by(&mut self, item: &TraceItem) -> Option<TaskList>
-        ensures { IfSome result (λ list. list ≡ self.old.killed) }
+    /// Whom the last kill may have killed, who is then not noted any more.
+    pub fn take_killed(&mut self) -> TaskList
+        ensures { result ≡ self.old.killed }
     {
-        if !tells_kill(item) {
-            return None;
-        }
         let none = TaskList {
             koids: Vec::new(*self.killed.koids.allocator()),
             whole: false,
         };
-        Some(std::mem::replace(&mut self.killed, none))
+        std::mem::replace(&mut self.killed, none)
     }
 
     /// Notes the process that the start names, of the process at which it stands; 0 where the handle
@@ -92,18 +87,6 @@ impl Taken {
         } }
     {
         self.started = named_by(process, call);
-    }
-
-    /// The process that is noted, where the item tells that it was started.
-    #[inline(always)]
-    pub fn started_by(&self, item: &TraceItem) -> Option<Pid>
-        ensures { result ≡ if_started item.now (Some self.now.started) }
-    {
-        if tells_start(item) {
-            Some(self.started)
-        } else {
-            None
-        }
     }
 
     /// Notes those that the call takes, of the process at which it stands, in place of what is
@@ -170,26 +153,6 @@ fn named_by(process: &Process, call: &CallInstr) -> Koid
     }
 }
 
-/// Whether the item tells of a start that was answered OK.
-#[inline(always)]
-fn tells_start(item: &TraceItem) -> bool
-    ensures { result ≡ tells_start item.now }
-{
-    match item {
-        TraceItem::Call { call, outcome, .. } => is_start(*call) && is_ok(*outcome),
-        TraceItem::Run { .. } | TraceItem::Stuck { .. } => false,
-    }
-}
-
-/// Whether the item tells of a kill.
-#[inline(always)]
-fn tells_kill(item: &TraceItem) -> bool {
-    match item {
-        TraceItem::Call { call, .. } => is_kill(*call),
-        TraceItem::Run { .. } | TraceItem::Stuck { .. } => false,
-    }
-}
-
 /// Whether the call kills.
 #[inline(always)]
 pub fn is_kill(call: CallName) -> bool
@@ -204,12 +167,4 @@ pub fn is_start(call: CallName) -> bool
     ensures { result ≡ is_start call }
 {
     matches!(call, CallName::ProcessStart)
-}
-
-/// Whether the answer is OK.
-#[inline(always)]
-fn is_ok(outcome: Outcome) -> bool
-    ensures { result ≡ is_ok outcome }
-{
-    matches!(outcome, Outcome::Answered(Status::Ok))
 }

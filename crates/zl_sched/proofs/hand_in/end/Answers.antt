@@ -12,5 +12,5 @@ returns c =
       last = c.in-Some.item ∷ [];
       items_are = c.push_reserved.ensures.items;
       ends = (c.in-Some.item, refl, did.takes, (c.in-Some.ensures {u = tt}).own);
-      changes = (c.in-Some.told, did.tells, (c.in-Some.ensures {u = tt}).killed, c.change_of.ensures);
+      changes = (did.tells, (c.in-Some.ensures {u = tt}).killed, (c.in-Some.ensures {u = tt}).told);
     })

@@ -1,14 +1,14 @@
-use Rattle.zl_calls.proofs.Common.{AreBlocked, List, Seeks, TakesStep, arith, false, false≢true, held, is_local, length, refl, subst, sym, tells_asleep, None}
+use Rattle.zl_calls.proofs.Common.{AreBlocked, List, Seeks, TakesStep, arith, false, false≢true, held, is_local, length, refl, subst, sym, fell_asleep, None}
 use Rattle.zl_calls.proofs.Common.{then_blocked, true, vec_capacity, ℕ, ◌∙◌, ◌≡◌, ◌≤◌}
 use Rattle.zl_objects.specs.declared.awaited.Awaited.{Awaited}
-use Rattle.zl_calls.proofs.Common.{world_blocked}
+use Rattle.zl_calls.proofs.Common.{ap, killed_of, world_blocked}
 use Rattle.zl_calls.specs.Calling.{left_in}
-use Rattle.zl_calls.specs.declared.waking.Woke.TheVariants as woke
+use Rattle.zl_calls.specs.declared.told.Woke.TheVariants as woke
 use Rattle.zl_calls.proofs.waking.BlockedLists.{no_more}
-use Rattle.zl_calls.proofs.waking.StillBlocked.{acted_ordered, acted_sought, same_seeks, silent}
+use Rattle.zl_calls.proofs.waking.StillBlocked.{acted_ordered, acted_sought, same_seeks, silent, then_asleep}
 use Rattle.zl_calls.proofs.step.OwnStep.{own_stepped, same_length}
 use Rattle.zl_calls.proofs.step.StepItems.{local_awake, machine_value, local_list, not_ready_in, takes_local}
-use Rattle.zl_calls.proofs.step.StepTells.{tells_local, tells_step, told_killed}
+use Rattle.zl_calls.proofs.step.StepTells.{fits_item, local_fits, tells_local, tells_step, told_killed}
 use Rattle.zl_calls.proofs.step.Whole.{asleep_consistent, fired_known, fired_ordered, nothing_holds, quiet_own, quiet_step, quiet_whole, stepped_whole}
 use Rattle.zl_calls.proofs.step.Whole.{woken_own, woken_step, woken_whole}
 use Rattle.zl_calls.proofs.world.World.step.Goals as goal
@@ -27,23 +27,29 @@ fire_waits-requires c =
     (vec_capacity c.self.inside.blocked) c.args.pid c.in_ok-item.item c.self.invariant
     c.act_for.new.processes.list.items c.act_for.new.objects c.act_for.new.objects c.fall_asleep.new.objects
     c.act_for.new.blocked.items c.in_ok-item.ensures.acts c.in_ok-item.ensures.list c.in_ok-item.ensures.fewer c.in_ok-item.ensures.asleep
-    (c.in_ok-item.ensures.unheld (sym c.is_local.ensures ∙ c.if-is_local.false)) c.fall_asleep.ensures
+    (c.in_ok-item.ensures.unheld (sym c.is_local.ensures ∙ c.if-is_local.false)) (rw c.effect_of-effect.ensures.asleep at c.fall_asleep.ensures)
 
 pub wake-woke-requires-clause-sought : goal.wake-woke-requires-clause-sought
 wake-woke-requires-clause-sought c =
     fired_known c.self.inside.library c.self.inside.processes.list.items c.self.inside.objects c.self.inside.blocked.items (vec_capacity c.self.inside.blocked)
     c.args.pid c.in_ok-item.item c.self.invariant c.act_for.new.processes.list.items c.act_for.new.objects c.act_for.new.objects c.fall_asleep.new.objects
     c.act_for.new.blocked.items c.in_ok-item.ensures.acts c.in_ok-item.ensures.list c.in_ok-item.ensures.fewer c.in_ok-item.ensures.asleep
-    (c.in_ok-item.ensures.unheld (sym c.is_local.ensures ∙ c.if-is_local.false)) c.fall_asleep.ensures c.fire_waits.new.objects c.fire_waits.ensures
+    (c.in_ok-item.ensures.unheld (sym c.is_local.ensures ∙ c.if-is_local.false))
+    (rw c.effect_of-effect.ensures.asleep at c.fall_asleep.ensures) c.fire_waits.new.objects c.fire_waits.ensures
 
 pub wake-woke-requires-clause-ordered : goal.wake-woke-requires-clause-ordered
-wake-woke-requires-clause-ordered c = rw c.add_blocked.ensures.items
+wake-woke-requires-clause-ordered c =
+    rw (
+      c.add_blocked.ensures.items,
+      then_asleep c.args.pid c.in_ok-item.item c.effect_of-effect.result c.effect_of-effect.ensures c.act_for.new.blocked.items,
+    )
     (fired_ordered c.self.inside.library c.self.inside.processes.list.items c.self.inside.objects c.self.inside.blocked.items
     (vec_capacity c.self.inside.blocked)
     c.args.pid c.in_ok-item.item c.self.invariant
     c.act_for.new.processes.list.items c.act_for.new.objects c.act_for.new.objects c.fall_asleep.new.objects
     c.act_for.new.blocked.items c.in_ok-item.ensures.acts c.in_ok-item.ensures.list c.in_ok-item.ensures.fewer c.in_ok-item.ensures.asleep
-    (c.in_ok-item.ensures.unheld (sym c.is_local.ensures ∙ c.if-is_local.false)) c.fall_asleep.ensures c.fire_waits.new.objects c.fire_waits.ensures)
+    (c.in_ok-item.ensures.unheld (sym c.is_local.ensures ∙ c.if-is_local.false))
+    (rw c.effect_of-effect.ensures.asleep at c.fall_asleep.ensures) c.fire_waits.new.objects c.fire_waits.ensures)
 
 pub calm-requires-clause-waits : goal.calm-requires-clause-waits
 calm-requires-clause-waits c =
@@ -51,27 +57,30 @@ calm-requires-clause-waits c =
     (vec_capacity c.self.inside.blocked) c.args.pid c.in_ok-item.item c.self.invariant
     c.act_for.new.processes.list.items c.act_for.new.objects c.act_for.new.objects c.fall_asleep.new.objects
     c.act_for.new.blocked.items c.in_ok-item.ensures.acts c.in_ok-item.ensures.list c.in_ok-item.ensures.fewer c.in_ok-item.ensures.asleep
-    (c.in_ok-item.ensures.unheld (sym c.is_local.ensures ∙ c.if-is_local.false)) c.fall_asleep.ensures
+    (c.in_ok-item.ensures.unheld (sym c.is_local.ensures ∙ c.if-is_local.false)) (rw c.effect_of-effect.ensures.asleep at c.fall_asleep.ensures)
     c.fire_waits.new.objects c.fire_waits.ensures c.wake-woke.new.processes.list.items c.wake-woke.new.objects c.wake-woke.new.blocked.items
-    c.started_by-started.result c.wake-woke.result
-    (rw c.add_blocked.ensures.items at c.wake-woke.ensures.turns)
+    c.started-started.result c.wake-woke.result
+    (rw (c.add_blocked.ensures.items, then_asleep c.args.pid c.in_ok-item.item c.effect_of-effect.result c.effect_of-effect.ensures c.act_for.new.blocked.items)
+    at c.wake-woke.ensures.turns)
 
 pub calm-requires-clause-sleepers : goal.calm-requires-clause-sleepers
 calm-requires-clause-sleepers c = c.wake-woke.ensures.turns.none_due
 
 pub returns-clause-ran : goal.returns-clause-ran
-returns-clause-ran c = rw (← c.self.view_is, c.calm.ensures)
+returns-clause-ran c = rw (← c.self.view_is, c.calm.ensures, c.of-told-2.ensures.woke)
     (tells_step
     (machine_value c.self.inside.library c.self.inside.processes.list.items c.self.inside.objects c.self.inside.blocked.items) c.args.pid _ c.in_ok-item.item
-    c.started_by-started.result c.wake-woke.result
+    c.started-started.result c.wake-woke.result
     (woken_step c.self.inside.library c.self.inside.processes.list.items c.self.inside.objects c.self.inside.blocked.items (vec_capacity c.self.inside.blocked)
     c.args.pid c.in_ok-item.item c.self.invariant
     c.act_for.new.processes.list.items c.act_for.new.objects c.act_for.new.objects c.fall_asleep.new.objects
     c.act_for.new.blocked.items c.in_ok-item.ensures.acts c.in_ok-item.ensures.list c.in_ok-item.ensures.fewer c.in_ok-item.ensures.asleep
-    (c.in_ok-item.ensures.unheld (sym c.is_local.ensures ∙ c.if-is_local.false)) c.fall_asleep.ensures
+    (c.in_ok-item.ensures.unheld (sym c.is_local.ensures ∙ c.if-is_local.false)) (rw c.effect_of-effect.ensures.asleep at c.fall_asleep.ensures)
     c.fire_waits.new.objects c.fire_waits.ensures c.wake-woke.new.processes.list.items c.wake-woke.new.objects c.wake-woke.new.blocked.items
-    c.started_by-started.result c.wake-woke.result
-    (rw c.add_blocked.ensures.items at c.wake-woke.ensures.turns)) c.act_for.new.taken c.in_ok-item.ensures.child c.started_by-started.ensures)
+    c.started-started.result c.wake-woke.result
+    (rw (c.add_blocked.ensures.items, then_asleep c.args.pid c.in_ok-item.item c.effect_of-effect.result c.effect_of-effect.ensures c.act_for.new.blocked.items)
+    at c.wake-woke.ensures.turns))
+    c.act_for.new.taken c.in_ok-item.ensures.child c.effect_of-effect.result c.effect_of-effect.ensures c.started-started.ensures)
 
 pub returns-clause-own : goal.returns-clause-own
 returns-clause-own c = rw (← c.self.view_is, c.calm.ensures)
@@ -79,16 +88,22 @@ returns-clause-own c = rw (← c.self.view_is, c.calm.ensures)
     c.args.pid c.in_ok-item.item c.self.invariant
     c.act_for.new.processes.list.items c.act_for.new.objects c.act_for.new.objects c.fall_asleep.new.objects
     c.act_for.new.blocked.items c.in_ok-item.ensures.acts c.in_ok-item.ensures.list c.in_ok-item.ensures.fewer c.in_ok-item.ensures.asleep
-    (c.in_ok-item.ensures.unheld (sym c.is_local.ensures ∙ c.if-is_local.false)) c.fall_asleep.ensures
+    (c.in_ok-item.ensures.unheld (sym c.is_local.ensures ∙ c.if-is_local.false)) (rw c.effect_of-effect.ensures.asleep at c.fall_asleep.ensures)
     c.fire_waits.new.objects c.fire_waits.ensures c.wake-woke.new.processes.list.items c.wake-woke.new.objects c.wake-woke.new.blocked.items
-    c.started_by-started.result c.wake-woke.result
-    (rw c.add_blocked.ensures.items at c.wake-woke.ensures.turns) c.in_ok-item.ensures.own)
+    c.started-started.result c.wake-woke.result
+    (rw (c.add_blocked.ensures.items, then_asleep c.args.pid c.in_ok-item.item c.effect_of-effect.result c.effect_of-effect.ensures c.act_for.new.blocked.items)
+    at c.wake-woke.ensures.turns) c.in_ok-item.ensures.own)
 
 pub add_blocked-requires : goal.add_blocked-requires
 add_blocked-requires c =
     let few : length (then_blocked c.args.pid c.in_ok-item.item c.act_for.new.blocked.items) ≤ length c.act_for.new.processes.list.items =
     no_more c.act_for.new.processes.list.items _ c.in_ok-item.ensures.list in
-    omega (arith, few, c.act_for.ensures.room)
+    omega (
+      arith,
+      few,
+      ap length (then_asleep c.args.pid c.in_ok-item.item c.effect_of-effect.result c.effect_of-effect.ensures c.act_for.new.blocked.items),
+      c.act_for.ensures.room,
+    )
 
 pub invariant_of-self-2 : goal.invariant_of-self-2
 invariant_of-self-2 c = rw c.calm.ensures
@@ -97,44 +112,58 @@ invariant_of-self-2 c = rw c.calm.ensures
     c.args.pid c.in_ok-item.item c.self.invariant
     c.act_for.new.processes.list.items c.act_for.new.objects c.act_for.new.objects c.fall_asleep.new.objects
     c.act_for.new.blocked.items c.in_ok-item.ensures.acts c.in_ok-item.ensures.list c.in_ok-item.ensures.fewer c.in_ok-item.ensures.asleep
-    (c.in_ok-item.ensures.unheld (sym c.is_local.ensures ∙ c.if-is_local.false)) c.fall_asleep.ensures
+    (c.in_ok-item.ensures.unheld (sym c.is_local.ensures ∙ c.if-is_local.false)) (rw c.effect_of-effect.ensures.asleep at c.fall_asleep.ensures)
     c.fire_waits.new.objects c.fire_waits.ensures c.wake-woke.new.processes.list.items c.wake-woke.new.objects c.wake-woke.new.blocked.items
-    c.started_by-started.result c.wake-woke.result
-    (rw c.add_blocked.ensures.items at c.wake-woke.ensures.turns) (vec_capacity c.wake-woke.new.blocked)
+    c.started-started.result c.wake-woke.result
+    (rw (c.add_blocked.ensures.items, then_asleep c.args.pid c.in_ok-item.item c.effect_of-effect.result c.effect_of-effect.ensures c.act_for.new.blocked.items)
+    at c.wake-woke.ensures.turns) (vec_capacity c.wake-woke.new.blocked)
     (omega (arith, same_length held _ _ c.wake-woke.ensures.turns.held, c.wake-woke.ensures.capacity, c.add_blocked.ensures.capacity, c.act_for.ensures.room)))
 
 -- ---- nothing waits there
 
 pub returns-then-is_quiet-clause-ran : goal.returns-then-is_quiet-clause-ran
-returns-then-is_quiet-clause-ran c = rw (← c.self.view_is, c.add_blocked.ensures.items)
+returns-then-is_quiet-clause-ran c = rw (
+  ← c.self.view_is,
+  c.of-told.ensures.woke,
+  c.add_blocked.ensures.items,
+  then_asleep c.args.pid c.in_ok-item.item c.effect_of-effect.result c.effect_of-effect.ensures c.act_for.new.blocked.items,
+)
     (tells_step
     (machine_value c.self.inside.library c.self.inside.processes.list.items c.self.inside.objects c.self.inside.blocked.items) c.args.pid _
-    c.in_ok-item.item c.started_by-started.result c.of-woke.result
+    c.in_ok-item.item c.started-started.result c.of-woke.result
     (quiet_step c.self.inside.library c.self.inside.processes.list.items c.self.inside.objects c.self.inside.blocked.items (vec_capacity c.self.inside.blocked)
     c.args.pid c.in_ok-item.item c.self.invariant
     c.act_for.new.processes.list.items c.act_for.new.objects c.act_for.new.objects c.fall_asleep.new.objects
     c.act_for.new.blocked.items c.in_ok-item.ensures.acts c.in_ok-item.ensures.list c.in_ok-item.ensures.fewer c.in_ok-item.ensures.asleep
-    (c.in_ok-item.ensures.unheld (sym c.is_local.ensures ∙ c.if-is_local.false)) c.fall_asleep.ensures
-    (c.is_quiet.ensures.waits c.if-is_quiet.true) (c.is_quiet.ensures.sleepers c.if-is_quiet.true) c.started_by-started.result c.of-woke.result
+    (c.in_ok-item.ensures.unheld (sym c.is_local.ensures ∙ c.if-is_local.false)) (rw c.effect_of-effect.ensures.asleep at c.fall_asleep.ensures)
+    (c.is_quiet.ensures.waits c.if-is_quiet.true) (c.is_quiet.ensures.sleepers c.if-is_quiet.true) c.started-started.result c.of-woke.result
     c.of-woke.ensures.told)
-    c.act_for.new.taken c.in_ok-item.ensures.child c.started_by-started.ensures)
+    c.act_for.new.taken c.in_ok-item.ensures.child c.effect_of-effect.result c.effect_of-effect.ensures c.started-started.ensures)
 
 pub returns-then-is_quiet-clause-own : goal.returns-then-is_quiet-clause-own
-returns-then-is_quiet-clause-own c = rw (← c.self.view_is, c.add_blocked.ensures.items)
+returns-then-is_quiet-clause-own c = rw (
+  ← c.self.view_is,
+  c.add_blocked.ensures.items,
+  then_asleep c.args.pid c.in_ok-item.item c.effect_of-effect.result c.effect_of-effect.ensures c.act_for.new.blocked.items,
+)
     (quiet_own c.self.inside.library c.self.inside.processes.list.items c.self.inside.objects c.self.inside.blocked.items (vec_capacity c.self.inside.blocked)
     c.args.pid c.in_ok-item.item c.self.invariant
     c.act_for.new.processes.list.items c.act_for.new.objects c.act_for.new.objects c.fall_asleep.new.objects
     c.act_for.new.blocked.items c.in_ok-item.ensures.acts c.in_ok-item.ensures.list c.in_ok-item.ensures.fewer c.in_ok-item.ensures.asleep
-    (c.in_ok-item.ensures.unheld (sym c.is_local.ensures ∙ c.if-is_local.false)) c.fall_asleep.ensures
+    (c.in_ok-item.ensures.unheld (sym c.is_local.ensures ∙ c.if-is_local.false)) (rw c.effect_of-effect.ensures.asleep at c.fall_asleep.ensures)
     (c.is_quiet.ensures.waits c.if-is_quiet.true) (c.is_quiet.ensures.sleepers c.if-is_quiet.true) c.in_ok-item.ensures.own)
 
 pub invariant_of-self-then-is_quiet : goal.invariant_of-self-then-is_quiet
-invariant_of-self-then-is_quiet c = rw c.add_blocked.ensures.items
+invariant_of-self-then-is_quiet c =
+    rw (
+      c.add_blocked.ensures.items,
+      then_asleep c.args.pid c.in_ok-item.item c.effect_of-effect.result c.effect_of-effect.ensures c.act_for.new.blocked.items,
+    )
     (quiet_whole c.self.inside.library c.self.inside.processes.list.items c.self.inside.objects c.self.inside.blocked.items (vec_capacity c.self.inside.blocked)
     c.args.pid c.in_ok-item.item c.self.invariant
     c.act_for.new.processes.list.items c.act_for.new.objects c.act_for.new.objects c.fall_asleep.new.objects
     c.act_for.new.blocked.items c.in_ok-item.ensures.acts c.in_ok-item.ensures.list c.in_ok-item.ensures.fewer c.in_ok-item.ensures.asleep
-    (c.in_ok-item.ensures.unheld (sym c.is_local.ensures ∙ c.if-is_local.false)) c.fall_asleep.ensures
+    (c.in_ok-item.ensures.unheld (sym c.is_local.ensures ∙ c.if-is_local.false)) (rw c.effect_of-effect.ensures.asleep at c.fall_asleep.ensures)
     (c.is_quiet.ensures.waits c.if-is_quiet.true) (c.is_quiet.ensures.sleepers c.if-is_quiet.true) (vec_capacity c.add_blocked.new.blocked)
     (omega (arith, c.add_blocked.ensures.capacity, c.act_for.ensures.room)))
 
@@ -175,7 +204,7 @@ invariant_of-self-then-is_local c =
     (local_list c.args.pid c.in_ok-item.item c.act_for.new.blocked.items local) c.in_ok-item.ensures.list in
     let known : (k : ℕ) (a : Awaited) → Seeks c.self.inside.objects k a → Seeks c.act_for.new.objects k a =
     λ k a there. same_seeks c.self.inside.objects c.act_for.new.objects c.in_ok-item.ensures.asleep k a there in
-    let none : tells_asleep c.in_ok-item.item ≡ false = silent c.in_ok-item.item local in
+    let none : fell_asleep c.in_ok-item.item ≡ false = silent c.in_ok-item.item local in
     stepped_whole c.self.inside.library c.self.inside.processes.list.items c.self.inside.objects c.self.inside.blocked.items
     (vec_capacity c.self.inside.blocked)
     c.args.pid c.in_ok-item.item c.self.invariant
@@ -198,9 +227,21 @@ invariant_of-self-then-is_local c =
 pub returns-then-is_quiet-clause-killed : goal.returns-then-is_quiet-clause-killed
 returns-then-is_quiet-clause-killed c = rw (← c.self.view_is)
     (told_killed c.self.inside.library (world_blocked c.self.inside.processes.list.items c.self.inside.objects c.self.inside.blocked.items) c.args.pid
-    c.killed_by-killed.result c.act_for.new.taken.killed c.killed_by-killed.ensures c.in_ok-item.ensures.task)
+    (killed_of c.of-told.result) c.act_for.new.taken.killed c.of-told.ensures.killed c.in_ok-item.ensures.task)
 
 pub returns-clause-killed : goal.returns-clause-killed
 returns-clause-killed c = rw (← c.self.view_is)
     (told_killed c.self.inside.library (world_blocked c.self.inside.processes.list.items c.self.inside.objects c.self.inside.blocked.items) c.args.pid
-    c.killed_by-killed.result c.act_for.new.taken.killed c.killed_by-killed.ensures c.in_ok-item.ensures.task)
+    (killed_of c.of-told-2.result) c.act_for.new.taken.killed c.of-told-2.ensures.killed c.in_ok-item.ensures.task)
+
+-- ---- what is told fits the item
+
+pub returns-then-is_local-clause-told : goal.returns-then-is_local-clause-told
+returns-then-is_local-clause-told c = local_fits c.in_ok-item.item (sym c.is_local.ensures ∙ c.if-is_local.true)
+
+pub returns-then-is_quiet-clause-told : goal.returns-then-is_quiet-clause-told
+returns-then-is_quiet-clause-told c =
+    fits_item c.in_ok-item.item c.effect_of-effect.result c.of-told.result c.effect_of-effect.ensures c.of-told.ensures.fits
+
+pub returns-clause-told : goal.returns-clause-told
+returns-clause-told c = fits_item c.in_ok-item.item c.effect_of-effect.result c.of-told-2.result c.effect_of-effect.ensures c.of-told-2.ensures.fits

@@ -20,9 +20,9 @@ move_on-requires c =
     (c.if-is_err-2.ensures {u = tt}).value c.make_room.ensures.room in
     let fits = places before c.self.invariant.0 c.args.pid unmarked c.step.new.self c.in-Some.item did.takes in
     record {
-      told = rw (c.change_of.ensures, c.deref-2.ensures.value, c.make_room.ensures.items)
+      told = rw (c.deref-2.ensures.value, c.make_room.ensures.items)
           (told_so before c.self.invariant.0 c.args.pid unmarked c.step.new.self c.in-Some.item did.takes c.in-Some.told did.tells
-          (c.in-Some.ensures {u = tt}).killed);
+          (c.in-Some.ensures {u = tt}).killed (c.in-Some.ensures {u = tt}).told);
       each_once = rw c.make_room.ensures.items
           (each_once before c.self.invariant.0 c.args.pid unmarked c.step.new.self c.in-Some.item did.takes);
       once = rw c.make_room.ensures.items (once before c.self.invariant.0 c.args.pid unmarked c.step.new.self c.in-Some.item did.takes);

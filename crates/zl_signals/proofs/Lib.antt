@@ -1,5 +1,6 @@
 pub mod BySignal
 pub mod Entries
+pub mod Indexed
 pub mod Numbered
 pub mod Results
 pub mod Takes

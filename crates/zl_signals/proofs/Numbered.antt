@@ -1,21 +1,18 @@
 -- The waits by their numbers, where one comes or goes: what is found and left, and what the numbers and the indexes say.
-use Rattle.zl_rights.proofs.Common.{◌≡◌, ℕ, ◌+◌, ◌<◌, ◌≤◌, ◌^◌, Bool, true, false, ◌==◌, ◌&&◌, cond, Option, Some, None, List, [], ◌∷◌, slice_index}
+use Rattle.zl_rights.proofs.Common.{◌≡◌, ℕ, ◌+◌, ◌<◌, ◌≤◌, ◌^◌, Bool, true, false, ◌==◌, ◌&&◌, cond, Option, Some, None, List, [], slice_index}
 use Rattle.zl_rights.proofs.Common.{ap, arith, cases_Bool, cases_lt, eq-eqb, eqb-true, false≢true, filter, find, if◌then◌else◌, inl, inr, lt-ltb, nat_cmp}
-use Rattle.zl_rights.proofs.Common.{nat_tests, ne_eqb, none-some, not, option_map, refl, replicate, same_Some, subst, sym, ◌∙◌, ◌⊎◌}
+use Rattle.zl_rights.proofs.Common.{ne_eqb, none-some, not, option_map, refl, replicate, same_Some, sym, ◌∙◌, ◌⊎◌}
 use Rattle.std.proofs.Common.{eqb}
 use Rattle.std.proofs.lemmas.Bool.{ltb-true}
 use Rattle.std.proofs.lemmas.List.{get_or-replicate}
 use Rattle.std.specs.BTreeMap.{is_at, values}
-use Rattle.std.specs.BTreeMap.Range.{IsInRange}
-use Rattle.std.specs.BTreeSet.{BTreeSet, IsKeyRangeOf, Updates, contains}
 use Rattle.std.specs.Cmp.{unsigned_tied}
 use Rattle.std.specs.Option.{option_eq}
 use Rattle.std.specs.Map.{remove_entry, values_of}
-use Rattle.std.specs.declared.ops.Bound.TheVariants.{Included}
 use Rattle.zl_signals.specs.Firsts.{AreMoved, AreNoted}
-use Rattle.zl_signals.specs.Numbered.{AreBelow, AreFirsts, AreIndexed, IsFirst, IsFirstFrom, NO_WAIT, NoneIsAt, Numbered, handle_cmp, is_before, is_for}
-use Rattle.zl_signals.specs.Numbered.{is_found_by, number_of, wait_by}
-use Rattle.zl_signals.specs.Waits.{is_by_handle_here, without_first}
+use Rattle.zl_signals.specs.Numbered.{AreBelow, AreFirsts, IsFirst, IsFirstFrom, NO_WAIT, NoneIsAt, Numbered, is_before, is_for}
+use Rattle.zl_signals.specs.Numbered.{number_of, wait_by}
+use Rattle.zl_signals.specs.Waits.{without_first}
 use Rattle.zl_signals.specs.declared.watch.Watch.{Watch}
 use Rattle.zl_signals.proofs.Entries.{none_filtered, none_out, Rise, some_passes, takes_out, TakesOut}
 
@@ -100,22 +97,13 @@ number_is f n is = by_test (f == NO_WAIT) is
 pub lower : (m : Numbered) (made high : ℕ) → made ≤ high → AreBelow made m → AreBelow high m
 lower m made high less below n x at = omega (arith, less, below n x at)
 
-at_handle : (pid value n pid2 value2 n2 : ℕ)
-    → is_at (handle_cmp (pid, value, n)) (pid2, value2, n2) ≡ (((pid == pid2) && (value == value2)) && (n == n2))
-at_handle pid value n pid2 value2 n2 = grind (arith, nat_tests, unsigned_tied pid pid2, unsigned_tied value value2, unsigned_tied n n2)
-
--- another entry of the index is as it was
-not_here : (b w d : Bool) → cond (b && false) w d ≡ d
-not_here true w d = refl
-not_here false w d = refl
-
 -- ---- one goes
 
 module _ (m m2 : Numbered) (number : ℕ) (same : (q : ℕ) → wait_by m2 q ≡ cond (is_at (nat_cmp number) q) None (wait_by m q)) where
-  gone : wait_by m2 number ≡ None
+  pub gone : wait_by m2 number ≡ None
   gone = same number ∙ rw (unsigned_tied number number, eq-eqb number number refl) refl
 
-  others : (q : ℕ) → (number == q) ≡ false → wait_by m2 q ≡ wait_by m q
+  pub others : (q : ℕ) → (number == q) ≡ false → wait_by m2 q ≡ wait_by m q
   others q apart = same q ∙ rw (unsigned_tied number q, apart) refl
 
   -- those that are left were there
@@ -164,51 +152,22 @@ module _ (m m2 : Numbered) (number : ℕ) (same : (q : ℕ) → wait_by m2 q ≡
           moved_first (is_for (2 ^ i)) f (slice_index firsts2 i) (are i inside) (eqb-true f number here) some ((moved i inside).0 here)
       by_test false apart = rw ((moved i inside).1 apart) (kept_first (is_for (2 ^ i)) f (slice_index firsts2 i) (are i inside) apart)
 
-  pub taken_indexed : (index index2 : BTreeSet (ℕ × ℕ × ℕ)) (x : Watch) → wait_by m number ≡ Some x
-      → Updates handle_cmp index index2 (x.pid, x.value, number) false → AreIndexed index m → AreIndexed index2 m2
-  taken_indexed index index2 x there updates indexed pid value q =
-      updates.0 (pid, value, q) ∙ rw (at_handle x.pid x.value number pid value q) (by_test (number == q) refl)
-    where
-      by_handle : Bool
-      by_handle = (x.pid == pid) && (x.value == value)
-
-      by_test : (b : Bool) → (number == q) ≡ b → cond (by_handle && b) false (contains handle_cmp index (pid, value, q)) ≡ is_found_by pid value (wait_by m2 q)
-      by_test true here =
-          let at : wait_by m q ≡ Some x = ap (wait_by m) (sym (eqb-true number q here)) ∙ there in
-          let none : wait_by m2 q ≡ None = ap (wait_by m2) (sym (eqb-true number q here)) ∙ gone in
-          rw (indexed pid value q, at, none) (elim by_handle as (λ b. cond (b && true) false b ≡ false) [ true ↦ refl | false ↦ refl ])
-      by_test false apart =
-          rw (indexed pid value q, others q apart) (not_here by_handle false (is_found_by pid value (wait_by m q)))
-
 -- ---- one comes
 
-module _ (m : Numbered) (number : ℕ) (below : AreBelow number m) where
-  absent : (pid value : ℕ) (o : Option Watch) → wait_by m number ≡ o → is_found_by pid value o ≡ false
-  absent pid value None is = refl
-  absent pid value (Some y) is = absurd (omega (arith, below number y is))
-
-  -- the index, where the new wait was taken back
-  pub back_indexed : (x : Watch) (index index1 index2 : BTreeSet (ℕ × ℕ × ℕ)) → Updates handle_cmp index index1 (x.pid, x.value, number) true
-      → Updates handle_cmp index1 index2 (x.pid, x.value, number) false → AreIndexed index m → AreIndexed index2 m
-  back_indexed x index index1 index2 updates back indexed pid value q =
-      back.0 (pid, value, q) ∙ rw (updates.0 (pid, value, q), at_handle x.pid x.value number pid value q, indexed pid value q) (by_test (number == q) refl)
-    where
-      by_handle : Bool
-      by_handle = (x.pid == pid) && (x.value == value)
-
-      by_test : (b : Bool) → (number == q) ≡ b
-          → cond (by_handle && b) false (cond (by_handle && b) true (is_found_by pid value (wait_by m q))) ≡ is_found_by pid value (wait_by m q)
-      by_test true here =
-          rw (ap (λ k. is_found_by pid value (wait_by m k)) (sym (eqb-true number q here)) ∙ absent pid value (wait_by m number) refl)
-          (elim by_handle as (λ b. cond (b && true) false (cond (b && true) true false) ≡ false) [ true ↦ refl | false ↦ refl ])
-      by_test false apart = not_here by_handle false _ ∙ not_here by_handle true (is_found_by pid value (wait_by m q))
+-- nothing stands at a number that none has yet
+pub absent : (m : Numbered) (number : ℕ) → AreBelow number m → wait_by m number ≡ None
+absent m number below = by_case (wait_by m number) refl
+  where
+    by_case : (o : Option Watch) → wait_by m number ≡ o → o ≡ None
+    by_case None is = refl
+    by_case (Some y) is = absurd (omega (arith, below number y is))
 
 module _ (m m2 : Numbered) (number : ℕ) (x : Watch) (same : (q : ℕ) → wait_by m2 q ≡ cond (is_at (nat_cmp number) q) (Some x) (wait_by m q))
     (below : AreBelow number m) where
-  own : wait_by m2 number ≡ Some x
+  pub own : wait_by m2 number ≡ Some x
   own = same number ∙ rw (unsigned_tied number number, eq-eqb number number refl) refl
 
-  as_before : (q : ℕ) → (number == q) ≡ false → wait_by m2 q ≡ wait_by m q
+  pub as_before : (q : ℕ) → (number == q) ≡ false → wait_by m2 q ≡ wait_by m q
   as_before q apart = same q ∙ rw (unsigned_tied number q, apart) refl
 
   -- it is the new one, or was there
@@ -263,77 +222,6 @@ module _ (m m2 : Numbered) (number : ℕ) (x : Watch) (same : (q : ℕ) → wait
   pushed_firsts firsts firsts2 some are_noted are i inside =
       rw (are_noted i inside) (noted_first (is_for (2 ^ i)) (slice_index firsts i) some (are i inside))
 
-  pub pushed_indexed : (index index2 : BTreeSet (ℕ × ℕ × ℕ)) → Updates handle_cmp index index2 (x.pid, x.value, number) true → AreIndexed index m
-      → AreIndexed index2 m2
-  pushed_indexed index index2 updates indexed pid value q =
-      updates.0 (pid, value, q) ∙ rw (at_handle x.pid x.value number pid value q) (by_test (number == q) refl)
-    where
-      by_handle : Bool
-      by_handle = (x.pid == pid) && (x.value == value)
-
-      by_test : (b : Bool) → (number == q) ≡ b → cond (by_handle && b) true (contains handle_cmp index (pid, value, q)) ≡ is_found_by pid value (wait_by m2 q)
-      by_test true here =
-          let is : number ≡ q = eqb-true number q here in
-          let at : wait_by m2 q ≡ Some x = ap (wait_by m2) (sym is) ∙ own in
-          let none : is_found_by pid value (wait_by m q) ≡ false = ap (λ k. is_found_by pid value (wait_by m k)) (sym is)
-          ∙ absent m number below pid value (wait_by m number) refl in
-          rw (indexed pid value q, none, at) (elim by_handle as (λ b. cond (b && true) true false ≡ b) [ true ↦ refl | false ↦ refl ])
-      by_test false apart =
-          rw (indexed pid value q, as_before q apart) (not_here by_handle true (is_found_by pid value (wait_by m q)))
-
--- ---- by handle
-
-found_passes : (pid value : ℕ) (o : Option Watch) → is_found_by pid value o ≡ true → option_map (is_by_handle_here pid value) o ≡ Some true
-found_passes pid value None found = absurd (false≢true found)
-found_passes pid value (Some x) found = ap Some found
-
-module _ (index : BTreeSet (ℕ × ℕ × ℕ)) (m : Numbered) (indexed : AreIndexed index m) (below : AreBelow NO_WAIT m) (pid value from : ℕ) (r : List (ℕ × ℕ × ℕ))
-    (part : IsKeyRangeOf handle_cmp (Included (pid, value, from)) (Included (pid, value, NO_WAIT)) index r) where
-  within : (n : ℕ) → from ≤ n → n < NO_WAIT → IsInRange handle_cmp (Included (pid, value, from)) (Included (pid, value, NO_WAIT)) (pid, value, n)
-  within n high low = (
-    grind (arith, nat_tests, unsigned_tied pid pid, unsigned_tied value value, unsigned_tied from n),
-    grind (arith, nat_tests, unsigned_tied pid pid, unsigned_tied value value, unsigned_tied n NO_WAIT, low),
-  )
-
-  shows : (n : ℕ) (y : Watch) → wait_by m n ≡ Some y → contains handle_cmp index (pid, value, n) ≡ is_by_handle_here pid value y
-  shows n y at = indexed pid value n ∙ ap (is_found_by pid value) at
-
-  pub none_next : r ≡ [] → IsFirstFrom from (is_by_handle_here pid value) m None
-  none_next is = (
-    λ n y at high before. sym (shows n y at) ∙ part.5 is (pid, value, n) (within n high (below n y at)),
-    λ n none. absurd (none-some n none),
-  )
-
-  module _ (x : ℕ × ℕ × ℕ) (t : List (ℕ × ℕ × ℕ)) (is : r ≡ x ∷ t) where
-    first_in : IsInRange handle_cmp (Included (pid, value, from)) (Included (pid, value, NO_WAIT)) x
-    first_in = ((rw is at part).1).0
-
-    own_handle : (x.0 ≡ pid) × (x.1 ≡ value) × (from ≤ x.2)
-    own_handle = (
-      grind (arith, nat_tests, unsigned_tied pid x.0, unsigned_tied x.0 pid, unsigned_tied value x.1, unsigned_tied x.1 value, first_in.0, first_in.1),
-      grind (arith, nat_tests, unsigned_tied pid x.0, unsigned_tied x.0 pid, unsigned_tied value x.1, unsigned_tied x.1 value, first_in.0, first_in.1),
-      grind (arith, nat_tests, unsigned_tied pid x.0, unsigned_tied x.0 pid, unsigned_tied value x.1, unsigned_tied x.1 value, first_in.0, first_in.1),
-    )
-
-    pub next_is : IsFirstFrom from (is_by_handle_here pid value) m (Some x.2)
-    next_is = (
-      λ n y at high before. by_test n y at high before (is_by_handle_here pid value y) refl,
-      λ n same. subst (λ k. (from ≤ k) × (option_map (is_by_handle_here pid value) (wait_by m k) ≡ Some true)) (same_Some x.2 n same) (
-        own_handle.2,
-        found_passes pid value (wait_by m x.2) (sym (indexed pid value x.2)
-            ∙ (λ i. contains handle_cmp index (sym own_handle.0 i, sym own_handle.1 i, x.2)) ∙ ((rw is at part).1).1),
-      ),
-    )
-      where
-        by_test : (n : ℕ) (y : Watch) → wait_by m n ≡ Some y → from ≤ n → is_before n (Some x.2) ≡ true → (b : Bool) → is_by_handle_here pid value y ≡ b
-            → is_by_handle_here pid value y ≡ false
-        by_test n y at high before false fails = fails
-        by_test n y at high before true passes =
-            let least = (rw is at part).2 (pid, value, n) (within n high (below n y at)) (shows n y at ∙ passes) in
-            let behind : x.2 ≤ n =
-            grind (arith, nat_tests, unsigned_tied x.0 pid, unsigned_tied x.1 value, unsigned_tied x.2 n, own_handle.0, own_handle.1, least) in
-            absurd (omega (arith, ltb-true n x.2 before, behind))
-
 -- ---- no waits
 
 module _ (m : Numbered) (none : m.entries ≡ []) where
@@ -351,6 +239,3 @@ module _ (m : Numbered) (none : m.entries ≡ []) where
 
   pub empty_firsts : AreFirsts (replicate 32 NO_WAIT) m
   empty_firsts i inside = rw (get_or-replicate 32 i NO_WAIT 0 inside) ((λ n x at high before. absurd (absent_at n x at)), (λ n is. absurd (none-some n is)))
-
-  pub empty_indexed : (index : BTreeSet (ℕ × ℕ × ℕ)) → index.keys ≡ [] → AreIndexed index m
-  empty_indexed index empty pid value n = rw (empty, nothing_at n) refl

@@ -4,11 +4,10 @@ use Rattle.zl_signals.specs.declared.watch.Asked.{Asked}
 use Rattle.zl_signals.specs.declared.watch.Asked.TheVariants as asked
 use Rattle.zl_signals.specs.declared.watch.Watch.{Watch}
 use Rattle.zl_signals.specs.Numbered.{is_for}
-use Rattle.zl_signals.specs.Waits.{is_at_port, is_keyed_here}
+use Rattle.zl_signals.specs.Waits.{is_at_port}
 
 -- the wait is one of those that are asked for
 abbrev pub takes_out : Asked → Watch → Bool
 takes_out (asked.For signals) = is_for signals.0
 takes_out (asked.AtPort port) = is_at_port port
-takes_out (asked.Keyed pid value port key) = is_keyed_here pid value port key
 takes_out asked.Any = λ x. true

@@ -1,13 +1,11 @@
 -- The waits at an object by their numbers, and what leads to them. No public clause cites this module.
 use Rattle.std.specs.Prelude.{ℕ, ◌≡◌, ◌^◌, ◌-◌, ◌<◌, ◌≤◌, Bool, true, false, ◌==◌, nat_lt, List, slice_index, Option, Some, None, if◌then◌else◌}
 use Rattle.std.specs.BTreeMap.{BTreeMap, get}
-use Rattle.std.specs.BTreeSet.{BTreeSet, contains}
 use Rattle.std.specs.Option.{option_map}
-use Rattle.std.specs.Ordering.{nat_cmp, ordering_then}
-use Rattle.std.specs.declared.cmp.Ordering.{Ordering}
+use Rattle.std.specs.Ordering.{nat_cmp}
 use Rattle.zl_rights.specs.Numbers.{meets}
 use Rattle.zl_signals.specs.declared.watch.Watch.{Watch}
-use Rattle.zl_signals.specs.Waits.{is_at_port, is_by_handle_here}
+use Rattle.zl_signals.specs.Waits.{is_at_port}
 
 -- the waits by their numbers
 abbrev pub Numbered : Type 0
@@ -51,21 +49,6 @@ is_for signals x = meets x.mask.0 signals
 -- of each signal this has the number of the first wait for it
 abbrev pub AreFirsts : List ℕ → Numbered → Type 0
 AreFirsts firsts m = (i : ℕ) → i < 32 → IsFirst (is_for (2 ^ i)) m (number_of (slice_index firsts i))
-
--- ---- by handle
-
--- the process, the value and the number in the order of the index
-abbrev pub handle_cmp : ℕ × ℕ × ℕ → ℕ × ℕ × ℕ → Ordering
-handle_cmp x y = ordering_then (ordering_then (nat_cmp x.0 y.0) (nat_cmp x.1 y.1)) (nat_cmp x.2 y.2)
-
--- the wait was found, and the process made it by its handle of this value
-abbrev pub is_found_by : ℕ → ℕ → Option Watch → Bool
-is_found_by pid value None = false
-is_found_by pid value (Some x) = is_by_handle_here pid value x
-
--- the index has just the numbers of the waits, by their handles
-abbrev pub AreIndexed : BTreeSet (ℕ × ℕ × ℕ) → Numbered → Type 0
-AreIndexed index m = (pid value n : ℕ) → contains handle_cmp index (pid, value, n) ≡ is_found_by pid value (wait_by m n)
 
 -- ---- each wait
 

@@ -7,6 +7,7 @@
 #![tactic(auto)]
 
 mod firsts;
+mod indexes;
 mod signal_state;
 mod waits;
 mod watch;

@@ -110,7 +110,7 @@ impl SignalState {
         ensures unchanged { IfNone result (self.new ≡ self.old) }
     {
         let waits = self.waits.as_mut()?;
-        let found = waits.next_by_handle(pid, value, 0);
+        let found = waits.first_by_handle(pid, value);
         waits.take(found)
     }
 

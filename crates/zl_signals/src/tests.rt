@@ -81,6 +81,31 @@ fn only_the_waits_that_are_named_end(rt: HostRuntime) -> Result<(), Fail> {
     Ok(())
 }
 
+/// Six waits that differ from the first in nothing, in the port, the key, the process or the value.
+#[test]
+fn a_cancel_ends_waits_by_all_that_it_names(rt: HostRuntime) -> Result<(), Fail> {
+    let mut state = SignalState::new(rt.alloc());
+    state.watch(watch(2, 1, 7, 5, Signals::SIGNALED, 10))?;
+    state.watch(watch(2, 1, 8, 5, Signals::SIGNALED, 20))?;
+    state.watch(watch(2, 1, 7, 6, Signals::SIGNALED, 30))?;
+    state.watch(watch(3, 1, 7, 5, Signals::SIGNALED, 40))?;
+    state.watch(watch(2, 4, 7, 5, Signals::SIGNALED, 50))?;
+    state.watch(watch(2, 1, 7, 5, Signals::USER_0, 60))?;
+    assert!(rt; state.unwatch_key(2, 1, 8, 6).is_none());
+    assert!(rt; state.unwatch_key(3, 4, 7, 5).is_none());
+    assert_eq!(rt; order(state.unwatch_key(2, 1, 7, 5)), Some(10));
+    assert_eq!(rt; order(state.unwatch_key(2, 1, 7, 5)), Some(60));
+    assert!(rt; state.unwatch_key(2, 1, 7, 5).is_none());
+    assert_eq!(rt; order(state.unwatch_key(2, 1, 7, 6)), Some(30));
+    assert_eq!(rt; order(state.fire(Signals::SIGNALED)), Some(20));
+    assert!(rt; state.unwatch_key(2, 1, 8, 5).is_none());
+    assert_eq!(rt; order(state.unwatch_handle(2, 4)), Some(50));
+    assert!(rt; state.unwatch_key(2, 4, 7, 5).is_none());
+    assert_eq!(rt; order(state.unwatch_key(3, 1, 7, 5)), Some(40));
+    assert!(rt; !state.has_waits());
+    Ok(())
+}
+
 #[test]
 fn all_waits_at_a_port_end(rt: HostRuntime) -> Result<(), Fail> {
     let mut state = four_waits(rt.alloc())?;
@@ -111,11 +136,31 @@ fn a_wait_without_memory_comes_back(rt: HostRuntime) {
     for n in 0..10 {
         assert_eq!(rt; order(state.fire(Signals::SIGNALED)), Some(n));
     }
-    for n in 10..20 {
+    for n in 10..15 {
         assert_eq!(rt; order(state.unwatch_handle(2, 1)), Some(n));
+    }
+    for n in 15..20 {
+        assert_eq!(rt; order(state.unwatch_key(2, 1, 7, n)), Some(n));
     }
     assert!(rt; state.fire(Signals::SIGNALED).is_none());
     assert!(rt; state.unwatch_handle(2, 1).is_none());
+}
+
+/// The same: where a wait is refused, another gets its number.
+#[test]
+fn a_refused_wait_is_found_nowhere(rt: HostRuntime) {
+    let mut state = SignalState::new(rt.alloc());
+    for n in 0..20 {
+        if state
+            .watch(watch(2, 1, 7, n, Signals::SIGNALED, n))
+            .is_err()
+        {
+            assert!(rt; state.watch(watch(3, 4, 8, n, Signals::SIGNALED, n)).is_ok());
+            assert!(rt; state.unwatch_key(2, 1, 7, n).is_none());
+            assert_eq!(rt; order(state.unwatch_handle(3, 4)), Some(n));
+        }
+        assert!(rt; state.unwatch_key(3, 4, 8, n).is_none());
+    }
 }
 
 /// The order of the first wait of a plain list that is for one of these signals, which goes.

@@ -5,25 +5,26 @@ ghost use Rattle.std.proofs.Props.{props};
 ghost use Rattle.std.specs.BTreeMap.{values, IsOrdered};
 ghost use Rattle.std.specs.List.{find};
 ghost use Rattle.std.specs.Ordering.{nat_cmp};
-ghost use Rattle.zl_signals.specs.Numbered.{wait_by, AreBelow, AreFirsts, AreIndexed, IsFirst, IsFirstFrom, NoneIsAt};
+ghost use Rattle.zl_signals.specs.Indexed.{AreIndexed};
+ghost use Rattle.zl_signals.specs.Numbered.{wait_by, AreBelow, AreFirsts, IsFirst, NoneIsAt};
 ghost use Rattle.zl_signals.specs.Waits.{is_at_port, is_by_handle_here, is_keyed_here, watch_holds, without_first};
 ghost use Rattle.zl_signals.specs.declared.watch.Watch.{Watch as WatchValue};
 
 use crate::firsts::{NO_WAIT, first_from, least, move_on, note, numbered};
+use crate::indexes::Indexes;
 use crate::watch::{Asked, Watch};
 use bitflags::Flags;
 use std::alloc::{AllocFailed, Global};
-use std::collections::{BTreeMap, BTreeSet};
-use std::ops::Bound;
+use std::collections::BTreeMap;
 use zl_rights::{HValue, Koid, Pid, Signals};
 
-/// The waits at an object. No look-up goes through all of them, but for those of a port and by a key.
+/// The waits at an object. No look-up goes through all of them, but for those of a port.
 #[derive(Drop)]
 pub(crate) struct Waits {
     // Each by its number: how many were registered here before it.
     pub by_number: BTreeMap<u64, Watch>,
-    // The process and the value of its handle, and its number.
-    by_handle: BTreeSet<(Pid, HValue, u64)>,
+    // The same numbers, by what leads to them.
+    indexes: Indexes,
     // Of each signal, by its bit, the number of the first wait for it, or `NO_WAIT`. It moves on
     // where that wait goes, and never back, so that a signal goes through each wait once at most.
     firsts: [u64; 32],
@@ -35,7 +36,7 @@ pub(crate) struct Waits {
     ghost ordered: { IsOrdered nat_cmp by_number } by { Prim.hlevel props },
     ghost few: { made ≤ 2 ^ 64 - 1 },
     ghost below: { AreBelow made by_number },
-    ghost indexed: { AreIndexed by_handle by_number },
+    ghost indexed: { AreIndexed indexes (wait_by by_number) },
     ghost first: { AreFirsts firsts by_number },
     ghost none: { NoneIsAt ended by_number },
 }
@@ -47,7 +48,7 @@ impl Waits {
     {
         Waits {
             by_number: BTreeMap::new(alloc),
-            by_handle: BTreeSet::new(alloc),
+            indexes: Indexes::new(alloc),
             firsts: [NO_WAIT; 32],
             made: 0,
             ended: None,
@@ -66,12 +67,11 @@ impl Waits {
         if number == NO_WAIT {
             return Err(AllocFailed { value: watch });
         }
-        let entry = (watch.pid, watch.value, number);
-        if self.by_handle.insert(entry).is_err() {
+        if self.indexes.insert(&watch, number).is_err() {
             return Err(AllocFailed { value: watch });
         }
         if self.by_number.insert(number, watch).is_err() {
-            self.by_handle.remove(&entry);
+            self.indexes.remove(&watch, number);
             return Err(AllocFailed { value: watch });
         }
         note(&mut self.firsts, watch.mask, number);
@@ -96,19 +96,11 @@ impl Waits {
         Some(self.by_number.get(&number)?.order)
     }
 
-    /// The number of the first wait, from the number `from` on, that the process made by its handle
-    /// of this value.
-    pub fn next_by_handle(&self, pid: Pid, value: HValue, from: u64) -> Option<u64>
-        ensures { IsFirstFrom from (is_by_handle_here pid value) self.now.by_number result }
+    /// The number of the first wait that the process made by its handle of this value.
+    pub fn first_by_handle(&self, pid: Pid, value: HValue) -> Option<u64>
+        ensures { IsFirst (is_by_handle_here pid value) self.now.by_number result }
     {
-        let (_, _, number) = self
-            .by_handle
-            .range((
-                Bound::Included((pid, value, from)),
-                Bound::Included((pid, value, NO_WAIT)),
-            ))
-            .next()?;
-        Some(*number)
+        self.indexes.first_by_handle(pid, value)
     }
 
     /// The number of the first wait that the process made by its handle of this value, for a packet
@@ -116,13 +108,7 @@ impl Waits {
     pub fn first_keyed(&self, pid: Pid, value: HValue, port: Koid, key: u64) -> Option<u64>
         ensures { IsFirst (is_keyed_here pid value port key) self.now.by_number result }
     {
-        let asked = Asked::Keyed {
-            pid,
-            value,
-            port,
-            key,
-        };
-        first_from(&self.by_number, 0, &asked)
+        self.indexes.first_keyed(pid, value, port, key)
     }
 
     /// The number of the first wait that gives its packet to the port.
@@ -145,7 +131,7 @@ impl Waits {
     {
         let number = found?;
         let wait = self.by_number.remove(&number)?;
-        self.by_handle.remove(&(wait.pid, wait.value, number));
+        self.indexes.remove(&wait, number);
         move_on(&mut self.firsts, &self.by_number, number);
         Some(wait)
     }

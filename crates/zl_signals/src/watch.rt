@@ -28,13 +28,6 @@ pub(crate) enum Asked {
     For(Signals),
     /// One that gives its packet to this port.
     AtPort(Koid),
-    /// One that the process made by its handle of this value, for a packet with the key to the port.
-    Keyed {
-        pid: Pid,
-        value: HValue,
-        port: Koid,
-        key: u64,
-    },
     /// Any.
     Any,
 }
@@ -47,14 +40,6 @@ impl Asked {
         match self {
             Asked::For(signals) => wait.mask.intersects(*signals),
             Asked::AtPort(port) => wait.port == *port,
-            Asked::Keyed {
-                pid,
-                value,
-                port,
-                key,
-            } => {
-                wait.key == *key && wait.value == *value && wait.pid == *pid && wait.port == *port
-            }
             Asked::Any => true,
         }
     }

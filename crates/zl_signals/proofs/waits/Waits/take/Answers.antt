@@ -1,6 +1,7 @@
-use Rattle.zl_rights.proofs.Common.{Some, sym, ◌∙◌, ◌≡◌}
+use Rattle.zl_rights.proofs.Common.{false, refl, Some, sym, ◌∙◌, ◌≡◌}
 use Rattle.zl_signals.specs.Numbered.{NO_WAIT, number_of, wait_by}
-use Rattle.zl_signals.proofs.Numbered.{found_first, goes_first, is_number, lower, none_found, none_goes, taken_below, taken_firsts, taken_indexed, taken_none}
+use Rattle.zl_signals.proofs.Indexed.{indexes_follow}
+use Rattle.zl_signals.proofs.Numbered.{found_first, goes_first, gone, is_number, lower, none_found, none_goes, others, taken_below, taken_firsts, taken_none}
 use Rattle.zl_signals.proofs.waits.Waits.take.Goals as goal
 
 pub returns-in_err-number-clause-earliest : goal.returns-in_err-number-clause-earliest
@@ -35,8 +36,9 @@ invariant_of-self-2 c =
       ordered = c.remove.ensures.ordered;
       few = old.few;
       below = taken_below old.by_number c.remove.new.self c.in_ok-number.number same old.made old.below;
-      indexed = taken_indexed old.by_number c.remove.new.self c.in_ok-number.number same old.by_handle c.remove-2.new.self c.in_ok-wait.wait there
-          c.remove-2.ensures.updates old.indexed;
+      indexed = indexes_follow old.indexes c.remove-2.new.self (wait_by old.by_number) (wait_by c.remove.new.self) c.in_ok-wait.wait c.in_ok-number.number false
+          c.remove-2.ensures (others old.by_number c.remove.new.self c.in_ok-number.number same) (rw there refl)
+          (gone old.by_number c.remove.new.self c.in_ok-number.number same) old.indexed;
       first = taken_firsts old.by_number c.remove.new.self c.in_ok-number.number same old.firsts c.move_on.new.firsts some c.move_on.ensures old.first;
       none = taken_none old.by_number c.remove.new.self c.in_ok-number.number same old.ended old.none;
     }

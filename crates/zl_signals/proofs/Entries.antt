@@ -1,6 +1,6 @@
 -- Entries in the order of their numbers, and their values: what is found among them, and what is left.
 use Rattle.zl_rights.proofs.Common.{◌≡◌, ℕ, ◌+◌, ◌<◌, ◌≤◌, Bool, true, false, not, List, [], ◌∷◌, ◌++◌, drop, take, filter, cond, Option, Some, None}
-use Rattle.zl_rights.proofs.Common.{ap, arith, cases_Bool, eq-eqb, eqb-true, find, inl, inr, nat_cmp, nat_tests, ne_eqb, none-some, refl, same_Some}
+use Rattle.zl_rights.proofs.Common.{ap, arith, cases_Bool, eq-eqb, eqb-true, find, inl, inr, length, nat_cmp, nat_tests, ne_eqb, none-some, refl, same_Some}
 use Rattle.zl_rights.proofs.Common.{slice_get, subst, suc, sym}
 use Rattle.zl_rights.proofs.Common.{option_map, ◌∙◌, ◌⊎◌}
 use Rattle.std.proofs.lemmas.Map.Keys.{sorted_head, sorted_tail}
@@ -122,6 +122,17 @@ module _ {X : Type 0} where
         by_test false fails rest =
             ap (λ b. cond (not b) (x ∷ filter (λ y. not (p y)) (without_first p xs)) (filter (λ y. not (p y)) (without_first p xs))) fails
             ∙ ap (λ (ys : List X). x ∷ ys) rest
+
+    -- fewer are left, where one is found
+    pub fewer : (xs : List X) (x : X) → find p xs ≡ Some x → length (without_first p xs) < length xs
+    fewer [] x found = absurd (none-some x found)
+    fewer (y ∷ xs) x found = by_test (p y) refl found (fewer xs x)
+      where
+        by_test : (b : Bool) → p y ≡ b → cond b (Some y) (find p xs) ≡ Some x → (find p xs ≡ Some x → length (without_first p xs) < length xs)
+            → length (without_first p (y ∷ xs)) < length (y ∷ xs)
+        by_test true passes its later = let rest : without_first p (y ∷ xs) ≡ xs = first_out p y xs ∙ rw passes refl in rw rest (omega arith)
+        by_test false fails other later =
+            let rest : without_first p (y ∷ xs) ≡ y ∷ without_first p xs = first_out p y xs ∙ rw fails refl in rw rest (omega (arith, later other))
 
   -- ---- any
 

@@ -12,7 +12,7 @@ use Rattle.std.specs.Ordering.{is_gt, ordering_reverse, ordering_then}
 use Rattle.std.specs.declared.cmp.Ordering.{Ordering}
 use Rattle.std.specs.declared.cmp.Ordering.TheVariants.{Equal, Greater, Less}
 use Rattle.std.specs.declared.ops.Bound.TheVariants.{Included}
-use Rattle.zl_signals.specs.Indexed.{AreIndexed, AreSet, IsFirstUnder, IsIndex, IsSet, entry_cmp, handle_cmp, handle_of, is_found_under, keyed_cmp, keyed_of}
+use Rattle.zl_signals.specs.Indexed.{AreIndexed, AreSet, IsFirstUnder, IsIndex, IsSet, entry_cmp, handle_cmp, handle_of, is_found_under, keyed_cmp, keyed_of, port_of}
 use Rattle.zl_signals.specs.Numbered.{AreBelow, IsFirst, NO_WAIT, Numbered, wait_by}
 use Rattle.zl_signals.specs.Waits.{is_by_handle_here, is_keyed_here}
 use Rattle.zl_signals.specs.declared.indexes.Indexes.{Indexes}
@@ -121,6 +121,7 @@ pub indexes_follow : (s s2 : Indexes) (w w2 : ℕ → Option Watch) (x : Watch) 
 indexes_follow s s2 w w2 x number b are_set others before after are = (
   follows handle_cmp handle_of s.by_handle s2.by_handle w w2 x number b are_set.0 others before after are.0,
   follows keyed_cmp keyed_of s.by_key s2.by_key w w2 x number b are_set.1 others before after are.1,
+  follows nat_cmp port_of s.by_port s2.by_port w w2 x number b are_set.2 others before after are.2,
 )
 
 -- a wait that was taken back leaves them as they were
@@ -134,6 +135,7 @@ pub sets_back : (s s2 s3 : Indexes) (x : Watch) (number : ℕ) → AreSet s s2 x
 sets_back s s2 s3 x number there gone = (
   set_back handle_cmp s.by_handle s2.by_handle s3.by_handle (handle_of x, number) there.0 gone.0,
   set_back keyed_cmp s.by_key s2.by_key s3.by_key (keyed_of x, number) there.1 gone.1,
+  set_back nat_cmp s.by_port s2.by_port s3.by_port (x.port, number) there.2 gone.2,
 )
 
 pub by_handle : (pid value : ℕ) (x : Watch) → is_at (handle_cmp (handle_of x)) (pid, value) ≡ is_by_handle_here pid value x

@@ -1,20 +1,19 @@
 -- The waits by their numbers, where one comes or goes: what is found and left, and what the numbers and the indexes say.
 use Rattle.zl_rights.proofs.Common.{◌≡◌, ℕ, ◌+◌, ◌<◌, ◌≤◌, ◌^◌, Bool, true, false, ◌==◌, ◌&&◌, cond, Option, Some, None, List, [], slice_index}
-use Rattle.zl_rights.proofs.Common.{ap, arith, cases_Bool, cases_lt, eq-eqb, eqb-true, false≢true, filter, find, if◌then◌else◌, inl, inr, lt-ltb, nat_cmp}
+use Rattle.zl_rights.proofs.Common.{ap, arith, cases_Bool, cases_lt, eq-eqb, eqb-true, false≢true, filter, find, if◌then◌else◌, inl, inr, length, lt-ltb, nat_cmp, nat_tests}
 use Rattle.zl_rights.proofs.Common.{ne_eqb, none-some, not, option_map, refl, replicate, same_Some, sym, ◌∙◌, ◌⊎◌}
-use Rattle.std.proofs.Common.{eqb}
 use Rattle.std.proofs.lemmas.Bool.{ltb-true}
 use Rattle.std.proofs.lemmas.List.{get_or-replicate}
-use Rattle.std.specs.BTreeMap.{is_at, values}
+use Rattle.std.specs.BTreeMap.{is_at, values, IsLowerBound}
 use Rattle.std.specs.Cmp.{unsigned_tied}
-use Rattle.std.specs.Option.{option_eq}
+use Rattle.std.specs.Ordering.{is_gt}
 use Rattle.std.specs.Map.{remove_entry, values_of}
 use Rattle.zl_signals.specs.Firsts.{AreMoved, AreNoted}
-use Rattle.zl_signals.specs.Numbered.{AreBelow, AreFirsts, IsFirst, IsFirstFrom, NO_WAIT, NoneIsAt, Numbered, is_before, is_for}
+use Rattle.zl_signals.specs.Numbered.{AreBelow, AreFirsts, IsFirst, IsFirstFrom, NO_WAIT, Numbered, is_before, is_for}
 use Rattle.zl_signals.specs.Numbered.{number_of, wait_by}
 use Rattle.zl_signals.specs.Waits.{without_first}
 use Rattle.zl_signals.specs.declared.watch.Watch.{Watch}
-use Rattle.zl_signals.proofs.Entries.{none_filtered, none_out, Rise, some_passes, takes_out, TakesOut}
+use Rattle.zl_signals.proofs.Entries.{fewer, none_filtered, none_out, Rise, some_passes, takes_out, TakesOut}
 
 -- ---- what is found, and what is left
 
@@ -33,6 +32,9 @@ module _ (p : Watch → Bool) (m : Numbered) (rise : Rise m.entries) where
     pub goes_first : values_of (remove_entry (is_at (nat_cmp n)) m.entries) ≡ without_first p (values m)
     goes_first = let one = some_passes p (wait_by m n) (first.1 n refl).1 in (taken one.0 one.1).left
 
+    pub fewer_left : length (without_first p (values m)) < length (values m)
+    fewer_left = let one = some_passes p (wait_by m n) (first.1 n refl).1 in fewer p (values m) one.0 (taken one.0 one.1).found
+
   -- or none is
   module _ (none : IsFirst p m None) where
     pub none_found : find p (values m) ≡ None
@@ -41,41 +43,17 @@ module _ (p : Watch → Bool) (m : Numbered) (rise : Rise m.entries) where
     pub none_goes : values m ≡ without_first p (values m)
     none_goes = (none_out p m.entries rise (λ k y at. none.0 k y at (omega arith) refl)).1
 
+-- the one with the least number is the first of all
+pub earliest : (m : Numbered) (n : ℕ) (x : Watch) → wait_by m n ≡ Some x → IsLowerBound nat_cmp m n → IsFirst (λ y. true) m (Some n)
+earliest m n x at least = (
+  λ q y found high before. let up : is_gt (nat_cmp n q) ≡ false = least q (rw found refl) in absurd (grind (arith, nat_tests, ltb-true q n before, up)),
+  λ k is. (omega arith, ap (λ j. option_map (λ (y : Watch). true) (wait_by m j)) (sym (same_Some n k is)) ∙ ap (option_map (λ (y : Watch). true)) at),
+)
+
 -- none passes
 pub all_fail : (p : Watch → Bool) (m : Numbered) → Rise m.entries → ((n : ℕ) (x : Watch) → wait_by m n ≡ Some x → p x ≡ false)
     → values m ≡ filter (λ x. not (p x)) (values m)
 all_fail p m rise fails = none_filtered p m.entries rise fails
-
--- the port that is known to have none is this one
-pub same_port : (known : Option ℕ) (port : ℕ) → option_eq eqb known (Some port) ≡ true → known ≡ Some port
-same_port None port same = absurd (false≢true same)
-same_port (Some p) port same = ap Some (eqb-true p port same)
-
--- ---- from a number on
-
-module _ (p : Watch → Bool) (m : Numbered) (from : ℕ) (before : (n : ℕ) (x : Watch) → wait_by m n ≡ Some x → n < from → p x ≡ false) where
-  -- where none stands before that number, it is the first of all
-  pub from_start : (o : Option ℕ) → IsFirstFrom from p m o → IsFirst p m o
-  from_start o first = (λ n x at high lower. by_order n x at lower (cases_lt n from), λ n is. (omega arith, (first.1 n is).1))
-    where
-      by_order : (n : ℕ) (x : Watch) → wait_by m n ≡ Some x → is_before n o ≡ true → (n < from) ⊎ (from ≤ n) → p x ≡ false
-      by_order n x at lower (inl less) = before n x at less
-      by_order n x at lower (inr high) = first.0 n x at high lower
-
-  -- behind the one that was taken out, none stands before
-  pub before_next : (k : ℕ) → IsFirstFrom from p m (Some k) → (m2 : Numbered) → ((n : ℕ) → wait_by m2 n ≡ (if k == n then None else wait_by m n))
-      → (n : ℕ) (x : Watch) → wait_by m2 n ≡ Some x → n < k + 1 → p x ≡ false
-  before_next k first m2 others n x at less = elim (cases_Bool (k == n)) [
-    | inl here ↦ absurd (none-some x (sym (others n ∙ rw here refl) ∙ at))
-    | inr apart ↦
-        let other : n ≡ k → ⊥ = λ is. false≢true (sym apart ∙ eq-eqb k n (sym is)) in
-        let lower : n < k = omega (arith, less, other) in
-        (from_start (Some k) first).0 n x (sym (others n ∙ rw apart refl) ∙ at) (omega arith) (lt-ltb n k lower)
-  ]
-
--- a number that was found is below so many
-pub found_below : (p : Watch → Bool) (m : Numbered) (made from n : ℕ) → AreBelow made m → IsFirstFrom from p m (Some n) → n < made
-found_below p m made from n below first = let one = some_passes p (wait_by m n) (first.1 n refl).1 in below n one.0 one.1
 
 -- ---- numbers
 
@@ -115,12 +93,6 @@ module _ (m m2 : Numbered) (number : ℕ) (same : (q : ℕ) → wait_by m2 q ≡
 
   pub taken_below : (made : ℕ) → AreBelow made m → AreBelow made m2
   taken_below made below n x at = below n x (left n x at)
-
-  pub taken_none : (port : Option ℕ) → NoneIsAt port m → NoneIsAt port m2
-  taken_none port none p is n x at = none p is n x (left n x at)
-
-  pub taken_others : (q : ℕ) → wait_by m2 q ≡ (if number == q then None else wait_by m q)
-  taken_others q = same q ∙ rw (unsigned_tied number q) refl
 
   module _ (p : Watch → Bool) (f f2 : ℕ) (first : IsFirst p m (number_of f)) where
     moved_first : f ≡ number → number_of number ≡ Some number → IsFirstFrom number p m2 (number_of f2) → IsFirst p m2 (number_of f2)
@@ -233,9 +205,6 @@ module _ (m : Numbered) (none : m.entries ≡ []) where
 
   pub empty_below : AreBelow 0 m
   empty_below n x at = absurd (absent_at n x at)
-
-  pub empty_none : NoneIsAt None m
-  empty_none p is n x at = absurd (absent_at n x at)
 
   pub empty_firsts : AreFirsts (replicate 32 NO_WAIT) m
   empty_firsts i inside = rw (get_or-replicate 32 i NO_WAIT 0 inside) ((λ n x at high before. absurd (absent_at n x at)), (λ n is. absurd (none-some n is)))

@@ -45,7 +45,11 @@ handle_of x = (x.pid, x.value)
 abbrev pub keyed_of : Watch → ℕ × ℕ × ℕ × ℕ
 keyed_of x = (x.pid, x.value, x.port, x.key)
 
--- the order of both
+-- the port
+abbrev pub port_of : Watch → ℕ
+port_of x = x.port
+
+-- the order of the first two
 abbrev pub handle_cmp : ℕ × ℕ → ℕ × ℕ → Ordering
 handle_cmp x y = ordering_then (nat_cmp x.0 y.0) (nat_cmp x.1 y.1)
 
@@ -58,7 +62,8 @@ keyed_cmp x y = ordering_then (ordering_then (ordering_then (nat_cmp x.0 y.0) (n
 abbrev pub AreSet : Indexes → Indexes → Watch → ℕ → Bool → Type 0
 AreSet s s2 x number b =
     IsSet handle_cmp s.by_handle s2.by_handle (handle_of x, number) b × IsSet keyed_cmp s.by_key s2.by_key (keyed_of x, number) b
+    × IsSet nat_cmp s.by_port s2.by_port (x.port, number) b
 
 -- the indexes have just the numbers of the waits
 abbrev pub AreIndexed : Indexes → (ℕ → Option Watch) → Type 0
-AreIndexed s w = IsIndex handle_cmp handle_of s.by_handle w × IsIndex keyed_cmp keyed_of s.by_key w
+AreIndexed s w = IsIndex handle_cmp handle_of s.by_handle w × IsIndex keyed_cmp keyed_of s.by_key w × IsIndex nat_cmp port_of s.by_port w

@@ -1,5 +1,4 @@
 pub mod Waits
-pub mod Asked
 pub mod Indexed
 pub mod Numbered
 pub mod Firsts

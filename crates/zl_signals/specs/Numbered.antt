@@ -5,7 +5,6 @@ use Rattle.std.specs.Option.{option_map}
 use Rattle.std.specs.Ordering.{nat_cmp}
 use Rattle.zl_rights.specs.Numbers.{meets}
 use Rattle.zl_signals.specs.declared.watch.Watch.{Watch}
-use Rattle.zl_signals.specs.Waits.{is_at_port}
 
 -- the waits by their numbers
 abbrev pub Numbered : Type 0
@@ -55,7 +54,3 @@ AreFirsts firsts m = (i : ℕ) → i < 32 → IsFirst (is_for (2 ^ i)) m (number
 -- the numbers are below this
 abbrev pub AreBelow : ℕ → Numbered → Type 0
 AreBelow made m = (n : ℕ) (x : Watch) → wait_by m n ≡ Some x → n < made
-
--- none of the waits gives its packet to this port
-abbrev pub NoneIsAt : Option ℕ → Numbered → Type 0
-NoneIsAt port m = (p : ℕ) → port ≡ Some p → (n : ℕ) (x : Watch) → wait_by m n ≡ Some x → is_at_port p x ≡ false

@@ -1,11 +1,10 @@
 //! Of each signal the number of the first wait for it.
 
 ghost use Rattle.std.specs.Prelude.{◌≡◌, ◌<◌, ◌^◌};
-ghost use Rattle.zl_signals.specs.Asked.{takes_out};
 ghost use Rattle.zl_signals.specs.Firsts.{AreMoved, AreNoted, IsLeast, IsMoved};
 ghost use Rattle.zl_signals.specs.Numbered.{is_for, number_of, AreBelow, IsFirstFrom, NO_WAIT};
 
-use crate::watch::{Asked, Watch};
+use crate::watch::Watch;
 use bitflags::Flags;
 use std::collections::BTreeMap;
 use zl_rights::Signals;
@@ -74,18 +73,11 @@ fn first_for(waits: &BTreeMap<u64, Watch>, signals: Signals, from: u64) -> u64
     requires { AreBelow NO_WAIT waits.now }
     ensures { IsFirstFrom from (is_for signals.0) waits.now (number_of result) }
 {
-    match first_from(waits, from, &Asked::For(signals)) {
-        Some(number) => number,
+    let mut later = waits.range(from..);
+    match later.find(|(_, wait)| wait.mask.intersects(signals)) {
+        Some((number, _)) => *number,
         None => NO_WAIT,
     }
-}
-
-/// The number of the first wait that is asked for, from the number `from` on.
-pub(crate) fn first_from(waits: &BTreeMap<u64, Watch>, from: u64, asked: &Asked) -> Option<u64>
-    ensures { IsFirstFrom from (takes_out asked.now) waits.now result }
-{
-    let (number, _) = waits.range(from..).find(|(_, wait)| asked.takes(wait))?;
-    Some(*number)
 }
 
 /// The signal with the bit `place`.

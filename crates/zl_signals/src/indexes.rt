@@ -2,6 +2,7 @@
 
 ghost use Rattle.std.specs.Prelude.{◌≡◌, true, false, OnErr, OnOk};
 ghost use Rattle.std.specs.BTreeSet.{IsEmpty};
+ghost use Rattle.std.specs.Ordering.{nat_cmp};
 ghost use Rattle.zl_signals.specs.Indexed.{handle_cmp, keyed_cmp, AreSet, IsFirstUnder};
 
 use crate::firsts::NO_WAIT;
@@ -18,6 +19,8 @@ pub(crate) struct Indexes {
     by_handle: BTreeSet<((Pid, HValue), u64)>,
     // Under these, the port and the key.
     by_key: BTreeSet<((Pid, HValue, Koid, u64), u64)>,
+    // Under the port alone.
+    by_port: BTreeSet<(Koid, u64)>,
 }
 
 /// The first number under the key.
@@ -35,10 +38,12 @@ impl Indexes {
     pub fn new(alloc: Global) -> Indexes
         ensures handles { IsEmpty result.by_handle }
         ensures keys { IsEmpty result.by_key }
+        ensures ports { IsEmpty result.by_port }
     {
         Indexes {
             by_handle: BTreeSet::new(alloc),
             by_key: BTreeSet::new(alloc),
+            by_port: BTreeSet::new(alloc),
         }
     }
 
@@ -51,6 +56,7 @@ impl Indexes {
         let keyed = (wait.pid, wait.value, wait.port, wait.key);
         if self.by_handle.insert((handle, number)).is_err()
             || self.by_key.insert((keyed, number)).is_err()
+            || self.by_port.insert((wait.port, number)).is_err()
         {
             self.remove(wait, number);
             return Err(AllocError);
@@ -65,6 +71,7 @@ impl Indexes {
         self.by_handle.remove(&((wait.pid, wait.value), number));
         self.by_key
             .remove(&((wait.pid, wait.value, wait.port, wait.key), number));
+        self.by_port.remove(&(wait.port, number));
     }
 
     /// The number of the first wait that the process made by its handle of this value.
@@ -80,5 +87,12 @@ impl Indexes {
         ensures { IsFirstUnder keyed_cmp self.now.by_key (pid, value, port, key) result }
     {
         first_under(&self.by_key, (pid, value, port, key))
+    }
+
+    /// The number of the first wait that gives its packet to the port.
+    pub fn first_at_port(&self, port: Koid) -> Option<u64>
+        ensures { IsFirstUnder nat_cmp self.now.by_port port result }
+    {
+        first_under(&self.by_port, port)
     }
 }

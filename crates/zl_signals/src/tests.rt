@@ -113,6 +113,9 @@ fn all_waits_at_a_port_end(rt: HostRuntime) -> Result<(), Fail> {
     state.end_port(7);
     assert!(rt; state.unwatch_port(7).is_none());
     assert_eq!(rt; order(state.take_wait()), Some(20));
+    state.watch(watch(2, 1, 7, 5, Signals::SIGNALED, 50))?;
+    state.end_port(7);
+    assert!(rt; state.unwatch_key(2, 1, 7, 5).is_none());
     assert_eq!(rt; order(state.take_wait()), Some(30));
     assert!(rt; state.take_wait().is_none());
     Ok(())

@@ -6,19 +6,19 @@ ghost use Rattle.std.specs.BTreeMap.{values, IsOrdered};
 ghost use Rattle.std.specs.List.{find};
 ghost use Rattle.std.specs.Ordering.{nat_cmp};
 ghost use Rattle.zl_signals.specs.Indexed.{AreIndexed};
-ghost use Rattle.zl_signals.specs.Numbered.{wait_by, AreBelow, AreFirsts, IsFirst, NoneIsAt};
+ghost use Rattle.zl_signals.specs.Numbered.{wait_by, AreBelow, AreFirsts, IsFirst};
 ghost use Rattle.zl_signals.specs.Waits.{is_at_port, is_by_handle_here, is_keyed_here, watch_holds, without_first};
 ghost use Rattle.zl_signals.specs.declared.watch.Watch.{Watch as WatchValue};
 
-use crate::firsts::{NO_WAIT, first_from, least, move_on, note, numbered};
+use crate::firsts::{NO_WAIT, least, move_on, note, numbered};
 use crate::indexes::Indexes;
-use crate::watch::{Asked, Watch};
+use crate::watch::Watch;
 use bitflags::Flags;
 use std::alloc::{AllocFailed, Global};
 use std::collections::BTreeMap;
 use zl_rights::{HValue, Koid, Pid, Signals};
 
-/// The waits at an object. No look-up goes through all of them, but for those of a port.
+/// The waits at an object. No look-up goes through all of them.
 #[derive(Drop)]
 pub(crate) struct Waits {
     // Each by its number: how many were registered here before it.
@@ -30,15 +30,11 @@ pub(crate) struct Waits {
     firsts: [u64; 32],
     // How many were registered here.
     made: u64,
-    // None of the waits gives its packet to this port. A port that goes may have many waits here,
-    // each of which leads to `end_port`: those are gone through once.
-    ended: Option<Koid>,
     ghost ordered: { IsOrdered nat_cmp by_number } by { Prim.hlevel props },
     ghost few: { made ≤ 2 ^ 64 - 1 },
     ghost below: { AreBelow made by_number },
     ghost indexed: { AreIndexed indexes (wait_by by_number) },
     ghost first: { AreFirsts firsts by_number },
-    ghost none: { NoneIsAt ended by_number },
 }
 
 impl Waits {
@@ -51,7 +47,6 @@ impl Waits {
             indexes: Indexes::new(alloc),
             firsts: [NO_WAIT; 32],
             made: 0,
-            ended: None,
         }
     }
 
@@ -76,7 +71,6 @@ impl Waits {
         }
         note(&mut self.firsts, watch.mask, number);
         self.made = number + 1;
-        self.ended = None;
         Ok(())
     }
 
@@ -115,7 +109,7 @@ impl Waits {
     pub fn first_at_port(&self, port: Koid) -> Option<u64>
         ensures { IsFirst (is_at_port port) self.now.by_number result }
     {
-        first_from(&self.by_number, 0, &Asked::AtPort(port))
+        self.indexes.first_at_port(port)
     }
 
     /// Takes out the wait with this number, if there is one.
@@ -126,8 +120,6 @@ impl Waits {
             → values self.new.by_number ≡ without_first p (values self.old.by_number) }
         ensures unchanged { IfNone result
             (values self.new.by_number ≡ values self.old.by_number) }
-        ensures others { IfSome found (λ k. (n : ℕ) → wait_by self.new.by_number n
-            ≡ (if k == n then None else wait_by self.old.by_number n)) }
     {
         let number = found?;
         let wait = self.by_number.remove(&number)?;
@@ -141,8 +133,9 @@ impl Waits {
         ensures first { result ≡ slice_get (values self.old.by_number) 0 }
         ensures rest { values self.new.by_number ≡ drop 1 (values self.old.by_number) }
     {
-        let found = first_from(&self.by_number, 0, &Asked::Any);
-        self.take(found)
+        let (number, _) = self.by_number.first_key_value()?;
+        let number = *number;
+        self.take(Some(number))
     }
 
     /// Takes out all waits that give their packets to the port.
@@ -150,14 +143,8 @@ impl Waits {
         ensures { values self.new.by_number
             ≡ filter (λ x. not (is_at_port port x)) (values self.old.by_number) }
     {
-        if self.ended == Some(port) {
-            return;
-        }
-        let mut from = 0;
-        while let Some(number) = first_from(&self.by_number, from, &Asked::AtPort(port)) {
+        while let Some(number) = self.first_at_port(port) {
             self.take(Some(number));
-            from = number + 1;
         }
-        self.ended = Some(port);
     }
 }

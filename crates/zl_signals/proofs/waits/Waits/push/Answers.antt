@@ -1,4 +1,4 @@
-use Rattle.zl_rights.proofs.Common.{arith, ne_eqb, none-some, refl, Some, sym, true, ◌≡◌}
+use Rattle.zl_rights.proofs.Common.{arith, ne_eqb, refl, Some, sym, true, ◌≡◌}
 use Rattle.zl_signals.specs.Numbered.{NO_WAIT, number_of, wait_by}
 use Rattle.zl_signals.proofs.Entries.{comes_last}
 use Rattle.zl_signals.proofs.Indexed.{indexes_follow, sets_back, still_indexed}
@@ -16,7 +16,6 @@ invariant_of-self c =
       indexed = still_indexed old.by_number old.made old.below old.indexes c.insert.new.self c.args.watch
           (if_err c.insert.result _ c.insert.ensures.taken_back (sym (c.if-is_err.ensures {u = tt}).value)) old.indexed;
       first = old.first;
-      none = old.none;
     }
 
 pub invariant_of-self-then-is_err-2 : goal.invariant_of-self-then-is_err-2
@@ -31,7 +30,6 @@ invariant_of-self-then-is_err-2 c =
           (sets_back old.indexes c.insert.new.self c.remove.new.self c.args.watch old.made
           (unless_err c.insert.result _ c.insert.ensures.ok (sym (c.if-is_err.ensures {u = tt}).value)) c.remove.ensures) old.indexed);
       first = rw same old.first;
-      none = rw same old.none;
     }
 
 pub invariant_of-self-2 : goal.invariant_of-self-2
@@ -48,7 +46,6 @@ invariant_of-self-2 c =
           (as_before old.by_number c.insert-2.new.self old.made c.args.watch same old.below) (rw (absent old.by_number old.made old.below) tt)
           (own old.by_number c.insert-2.new.self old.made c.args.watch same old.below) old.indexed;
       first = pushed_firsts old.by_number c.insert-2.new.self old.made c.args.watch same old.below old.firsts c.note.new.firsts some c.note.ensures old.first;
-      none = λ p is n x at. absurd (none-some p is);
     }
 
 pub returns-clause-ok : goal.returns-clause-ok

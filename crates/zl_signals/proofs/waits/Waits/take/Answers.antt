@@ -1,7 +1,7 @@
 use Rattle.zl_rights.proofs.Common.{false, refl, Some, sym, ◌∙◌, ◌≡◌}
 use Rattle.zl_signals.specs.Numbered.{NO_WAIT, number_of, wait_by}
 use Rattle.zl_signals.proofs.Indexed.{indexes_follow}
-use Rattle.zl_signals.proofs.Numbered.{found_first, goes_first, gone, is_number, lower, none_found, none_goes, others, taken_below, taken_firsts, taken_none}
+use Rattle.zl_signals.proofs.Numbered.{found_first, goes_first, gone, is_number, lower, none_found, none_goes, others, taken_below, taken_firsts}
 use Rattle.zl_signals.proofs.waits.Waits.take.Goals as goal
 
 pub returns-in_err-number-clause-earliest : goal.returns-in_err-number-clause-earliest
@@ -22,7 +22,6 @@ invariant_of-self c =
       below = rw same old.below;
       indexed = rw same old.indexed;
       first = rw same old.first;
-      none = rw same old.none;
     }
 
 pub invariant_of-self-2 : goal.invariant_of-self-2
@@ -40,7 +39,6 @@ invariant_of-self-2 c =
           c.remove-2.ensures (others old.by_number c.remove.new.self c.in_ok-number.number same) (rw there refl)
           (gone old.by_number c.remove.new.self c.in_ok-number.number same) old.indexed;
       first = taken_firsts old.by_number c.remove.new.self c.in_ok-number.number same old.firsts c.move_on.new.firsts some c.move_on.ensures old.first;
-      none = taken_none old.by_number c.remove.new.self c.in_ok-number.number same old.ended old.none;
     }
 
 pub returns-clause-earliest : goal.returns-clause-earliest

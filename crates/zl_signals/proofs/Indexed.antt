@@ -1,6 +1,7 @@
--- One index of the waits: what an insertion that was taken back leaves, what stands first under a key, and what follows where a wait comes or goes.
+-- The indexes of the waits: what an insertion that was taken back leaves, what stands first under a key, and what follows where a wait comes or goes.
 use Rattle.zl_rights.proofs.Common.{◌≡◌, ℕ, ◌≤◌, ◌<◌, Bool, true, false, ◌==◌, ◌&&◌, cond, Err, List, [], ◌∷◌, Ok, OnOk, Option, Some, None, Result}
-use Rattle.zl_rights.proofs.Common.{ap, arith, cases_Bool, eqb-true, false≢true, IfSome, inl, inr, nat_cmp, nat_tests, none-some, option_map, refl, same_Some, subst, sym, ◌∙◌}
+use Rattle.zl_rights.proofs.Common.{ap, arith, cases_Bool, eqb-true, false≢true, IfSome, inl, inr, nat_cmp, nat_tests, none-some}
+use Rattle.zl_rights.proofs.Common.{option_map, refl, same_Some, subst, sym, ◌∙◌}
 use Rattle.std.proofs.lemmas.Bool.{ltb-true}
 use Rattle.std.specs.Bool.{then_some}
 use Rattle.std.specs.Prelude.{OnErr}
@@ -12,7 +13,8 @@ use Rattle.std.specs.Ordering.{is_gt, ordering_reverse, ordering_then}
 use Rattle.std.specs.declared.cmp.Ordering.{Ordering}
 use Rattle.std.specs.declared.cmp.Ordering.TheVariants.{Equal, Greater, Less}
 use Rattle.std.specs.declared.ops.Bound.TheVariants.{Included}
-use Rattle.zl_signals.specs.Indexed.{AreIndexed, AreSet, IsFirstUnder, IsIndex, IsSet, entry_cmp, handle_cmp, handle_of, is_found_under, keyed_cmp, keyed_of, port_of}
+use Rattle.zl_signals.specs.Indexed.{AreIndexed, AreSet, IsFirstUnder, IsIndex, IsSet, entry_cmp, handle_cmp, handle_of, is_found_under}
+use Rattle.zl_signals.specs.Indexed.{keyed_cmp, keyed_of, port_of}
 use Rattle.zl_signals.specs.Numbered.{AreBelow, IsFirst, NO_WAIT, Numbered, wait_by}
 use Rattle.zl_signals.specs.Waits.{is_by_handle_here, is_keyed_here}
 use Rattle.zl_signals.specs.declared.indexes.Indexes.{Indexes}
@@ -73,6 +75,14 @@ module _ {K : Type 0} (cmp : K → K → Ordering) (total : IsTotalOrder cmp) (s
 
 -- ---- the indexes of the waits
 
+and_true : (c b d : Bool) → cond (c && true) b d ≡ cond c b d
+and_true true b d = refl
+and_true false b d = refl
+
+and_false : (c b d : Bool) → cond (c && false) b d ≡ d
+and_false true b d = refl
+and_false false b d = refl
+
 module _ {K : Type 0} (cmp : K → K → Ordering) (key : Watch → K) where
   -- where what stands at one number changes, and the index in the same way
   module _ (s s2 : BTreeSet (K × ℕ)) (w w2 : ℕ → Option Watch) (x : Watch) (number : ℕ) (b : Bool) (is_set : IsSet cmp s s2 (key x, number) b)
@@ -96,9 +106,8 @@ module _ {K : Type 0} (cmp : K → K → Ordering) (key : Watch → K) where
             let at : is_found_under cmp key k (w2 q) ≡ cond (is_at (cmp (key x)) k) b (is_found_under cmp key k (w q)) =
             subst (λ n. is_found_under cmp key k (w2 n) ≡ cond (is_at (cmp (key x)) k) b (is_found_under cmp key k (w n))) (eqb-true number q here)
             (ap (is_found_under cmp key k) after ∙ stands b (w number) before k) in
-            rw (index k q, at) (elim (is_at (cmp (key x)) k) as (λ c. cond (c && true) b (is_found_under cmp key k (w q)) ≡ cond c b (is_found_under cmp key k (w q))) [ true ↦ refl | false ↦ refl ])
-        by_test false apart =
-            rw (index k q, others q apart) (elim (is_at (cmp (key x)) k) as (λ c. cond (c && false) b (is_found_under cmp key k (w q)) ≡ is_found_under cmp key k (w q)) [ true ↦ refl | false ↦ refl ])
+            rw (index k q, at) (and_true (is_at (cmp (key x)) k) b (is_found_under cmp key k (w q)))
+        by_test false apart = rw (index k q, others q apart) (and_false (is_at (cmp (key x)) k) b (is_found_under cmp key k (w q)))
 
   -- the first that stands under a key is the first that passes the test for it
   module _ (p : Watch → Bool) (k : K) (test : (x : Watch) → is_at (cmp (key x)) k ≡ p x) (s : BTreeSet (K × ℕ)) (m : Numbered) where
@@ -139,7 +148,7 @@ sets_back s s2 s3 x number there gone = (
 )
 
 pub by_handle : (pid value : ℕ) (x : Watch) → is_at (handle_cmp (handle_of x)) (pid, value) ≡ is_by_handle_here pid value x
-by_handle pid value x = sym (both_tied (x.pid == pid) (x.value == value) (nat_cmp x.pid pid) (nat_cmp x.value value) (unsigned_ties x.pid pid) (unsigned_ties x.value value))
+by_handle pid value x = grind (arith, nat_tests, unsigned_tied x.pid pid, unsigned_tied x.value value)
 
 pub by_key : (pid value port key : ℕ) (x : Watch) → is_at (keyed_cmp (keyed_of x)) (pid, value, port, key) ≡ is_keyed_here pid value port key x
 by_key pid value port key x = grind (arith, nat_tests, unsigned_tied x.pid pid, unsigned_tied x.value value, unsigned_tied x.port port, unsigned_tied x.key key)

@@ -21,4 +21,5 @@ pub returns : goal.returns
 returns c =
     let waits = c.loop-number.self in
     let none = c.first_at_port.ensures in
-    all_fail (is_at_port c.args.port) waits.by_number waits.ordered (λ n x at. none.0 n x at (omega arith) (ap (is_before n) c.in_default.is)) ∙ c.loop-number.invariant
+    all_fail (is_at_port c.args.port) waits.by_number waits.ordered (λ n x at. none.0 n x at (omega arith) (ap (is_before n) c.in_default.is))
+    ∙ c.loop-number.invariant

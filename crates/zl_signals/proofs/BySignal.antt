@@ -1,29 +1,17 @@
 -- The numbers of the first waits for each signal: one of them is written, and what they say of any set of signals.
-use Rattle.zl_rights.proofs.Common.{◌≡◌, ℕ, ◌+◌, ◌*◌, ◌^◌, ◌<◌, ◌≤◌, Bool, true, false, ◌==◌, not, bit_and, List, length, slice_index, slice_set, Some}
-use Rattle.zl_rights.proofs.Common.{ap, arith, cases_lt, eqb-true, inl, inr, nat_tests, none-some, option_map, refl, sym, ◌∙◌}
+use Rattle.zl_rights.proofs.Common.{◌≡◌, ℕ, ◌*◌, ◌%◌, ◌^◌, ◌<◌, ◌≤◌, Bool, true, false, ◌==◌, not, bit_and, List, length, slice_index, slice_set, Some}
+use Rattle.zl_rights.proofs.Common.{ap, arith, cases_lt, eqb-true, false≢true, inl, inr, nat_tests, none-some, option_map, refl, sym, ◌∙◌}
 use Rattle.zl_rights.specs.Numbers.{meets}
-use Rattle.std.proofs.Common.{min}
+use Rattle.std.proofs.Common.{min, w32, ◌≢◌}
 use Rattle.std.proofs.lemmas.Bool.{cases_eq}
-use Rattle.std.proofs.lemmas.List.{get_or-set_other, get_or-set_same}
-use Rattle.std.proofs.lemmas.Nat.Bits.{and_pow, bit_at-lt, bit_at-zero, bit_at_above, bit_at_and, same_from_bits}
-use Rattle.std.proofs.lemmas.Nat.{pow_pos}
-use Rattle.std.specs.Int.{bit_at}
-use Rattle.zl_signals.specs.Firsts.{IsLeast}
+use Rattle.std.proofs.lemmas.List.{get_or-set_other, get_or-set_same, length-set}
+use Rattle.std.proofs.lemmas.Nat.Bits.{and_pow, bit_at-lt, bit_at-trailing_zeros, bit_at-zero, bit_at_above, bit_at_and, bit_at_clear_other, bit_at_clear_same, same_from_bits}
+use Rattle.std.proofs.lemmas.Nat.{and_le_l, pow_pos}
+use Rattle.std.specs.Int.{bit_at, bit_not, trailing_zeros}
+use Rattle.zl_signals.specs.Firsts.{IsLeast, IsWithout}
 use Rattle.zl_signals.specs.Numbered.{AreBelow, AreFirsts, IsFirst, NO_WAIT, Numbered, is_before, is_for, number_of, wait_by}
 use Rattle.zl_signals.specs.Waits.{watch_holds}
 use Rattle.zl_signals.proofs.Entries.{some_passes}
-
--- ---- one is written
-
-module _ (R : ℕ → ℕ → Type 0) (firsts : List ℕ) (place v : ℕ) (inside : place < length firsts) where
-  pub written : ((i : ℕ) → i < place → R i (slice_index firsts i)) → R place v → (i : ℕ) → i < place + 1 → R i (slice_index (slice_set firsts place v) i)
-  written before now i less = elim (cases_eq i place) [
-    | inl here ↦ rw here (rw (get_or-set_same firsts place v 0 inside) now)
-    | inr other ↦ rw (get_or-set_other firsts place i v 0 other) (before i (omega (arith, less, other)))
-  ]
-
-pub others_written : (firsts : List ℕ) (place v i : ℕ) → place + 1 ≤ i → slice_index (slice_set firsts place v) i ≡ slice_index firsts i
-others_written firsts place v i high = get_or-set_other firsts place i v 0 (λ same. absurd (omega (arith, same, high)))
 
 -- ---- signals by their bits
 
@@ -32,6 +20,57 @@ by_bit n i = by_value (bit_at n i) (bit_at-lt n i) (and_pow n i)
   where
     by_value : (b : ℕ) → b < 2 → bit_and n (2 ^ i) ≡ b * 2 ^ i → meets n (2 ^ i) ≡ (b == 1)
     by_value b less is = grind (arith, nat_tests, less, is, pow_pos i)
+
+no_bit : (i : ℕ) → meets 0 (2 ^ i) ≡ false
+no_bit i = by_bit 0 i ∙ rw (bit_at-zero i) refl
+
+bit_on : (n i : ℕ) → bit_at n i ≡ 1 → meets n (2 ^ i) ≡ true
+bit_on n i is = by_bit n i ∙ rw is refl
+
+pub lowest_is : (n : ℕ) → 0 < n → n < 2 ^ 32 → (trailing_zeros w32 n < 32) × (meets n (2 ^ trailing_zeros w32 n) ≡ true)
+lowest_is n some small = let low = bit_at-trailing_zeros w32 n some small in (low.0, bit_on n (trailing_zeros w32 n) low.1)
+
+pub cleared : (n place : ℕ) → place < 32 → IsWithout n place (bit_and n (bit_not w32 (1 * 2 ^ place % 2 ^ 32)))
+cleared n place inside = (gone, λ i less apart. by_bit n2 i ∙ (ap (λ b. b == 1) (bit_at_clear_other w32 n place inside i less apart) ∙ sym (by_bit n i)), lower)
+  where
+    n2 : ℕ
+    n2 = bit_and n (bit_not w32 (1 * 2 ^ place % 2 ^ 32))
+
+    gone : meets n2 (2 ^ place) ≡ false
+    gone = by_bit n2 place ∙ rw (bit_at_clear_same w32 n place inside) refl
+
+    lower : meets n (2 ^ place) ≡ true → n2 < n
+    lower on =
+        let other : n2 ≡ n → ⊥ = λ same. false≢true (sym gone ∙ (ap (λ k. meets k (2 ^ place)) same ∙ on)) in
+        omega (arith, and_le_l n (bit_not w32 (1 * 2 ^ place % 2 ^ 32)), other)
+
+-- ---- one signal after another
+
+module _ (R : ℕ → ℕ → ℕ → Type 0) (mask : ℕ) (firsts0 : List ℕ) where
+  -- all is done but for the signals that are left
+  pub record Done (left : ℕ) (firsts : List ℕ) : Type 0 where
+    pub long : length firsts ≡ 32
+    pub wanted : (i : ℕ) → i < 32 → meets left (2 ^ i) ≡ true → meets mask (2 ^ i) ≡ true
+    pub done : (i : ℕ) → i < 32 → meets left (2 ^ i) ≡ false → R i (slice_index firsts0 i) (slice_index firsts i)
+    pub rest : (i : ℕ) → i < 32 → meets left (2 ^ i) ≡ true → slice_index firsts i ≡ slice_index firsts0 i
+
+  pub one_done : (left left2 place v : ℕ) (firsts : List ℕ) → place < 32 → IsWithout left place left2 → R place (slice_index firsts0 place) v
+      → Done left firsts → Done left2 (slice_set firsts place v)
+  one_done left left2 place v firsts inside out now d = record {
+    long = length-set firsts place v ∙ d.long;
+    wanted = λ i less on. d.wanted i less (sym (out.1 i less (other i on)) ∙ on);
+    done = λ i less off. elim (cases_eq i place) [
+      | inl here ↦ rw here (rw (get_or-set_same firsts place v 0 (omega (arith, inside, d.long))) now)
+      | inr apart ↦ rw (get_or-set_other firsts place i v 0 apart) (d.done i less (sym (out.1 i less apart) ∙ off))
+    ];
+    rest = λ i less on. get_or-set_other firsts place i v 0 (other i on) ∙ d.rest i less (sym (out.1 i less (other i on)) ∙ on);
+  }
+    where
+      other : (i : ℕ) → meets left2 (2 ^ i) ≡ true → i ≢ place
+      other i on here = false≢true (sym out.0 ∙ (ap (λ j. meets left2 (2 ^ j)) (sym here) ∙ on))
+
+  pub all_done : (firsts : List ℕ) → Done 0 firsts → (i : ℕ) → i < 32 → R i (slice_index firsts0 i) (slice_index firsts i)
+  all_done firsts d i less = d.done i less (no_bit i)
 
 -- no signal of both is active
 pub none_meets : (active mask : ℕ) → active < 2 ^ 32 → ((i : ℕ) → i < 32 → meets active (2 ^ i) ≡ true → meets mask (2 ^ i) ≡ false) → meets active mask ≡ false

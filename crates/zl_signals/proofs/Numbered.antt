@@ -1,14 +1,14 @@
 -- The waits by their numbers, where one comes or goes: what is found and left, and what the numbers and the indexes say.
 use Rattle.zl_rights.proofs.Common.{◌≡◌, ℕ, ◌+◌, ◌<◌, ◌≤◌, ◌^◌, Bool, true, false, ◌==◌, ◌&&◌, cond, Option, Some, None, List, [], slice_index}
-use Rattle.zl_rights.proofs.Common.{ap, arith, cases_Bool, cases_lt, eq-eqb, eqb-true, false≢true, filter, find, if◌then◌else◌, inl, inr, length, lt-ltb, nat_cmp, nat_tests}
-use Rattle.zl_rights.proofs.Common.{ne_eqb, none-some, not, option_map, refl, replicate, same_Some, sym, ◌∙◌, ◌⊎◌}
+use Rattle.zl_rights.proofs.Common.{ap, arith, cases_Bool, cases_lt, eq-eqb, eqb-true, false≢true, filter, find, if◌then◌else◌, inl, inr, length}
+use Rattle.zl_rights.proofs.Common.{lt-ltb, nat_cmp, nat_tests, ne_eqb, none-some, not, option_map, refl, replicate, same_Some, sym, ◌∙◌, ◌⊎◌}
 use Rattle.std.proofs.lemmas.Bool.{ltb-true}
 use Rattle.std.proofs.lemmas.List.{get_or-replicate}
 use Rattle.std.specs.BTreeMap.{is_at, values, IsLowerBound}
 use Rattle.std.specs.Cmp.{unsigned_tied}
 use Rattle.std.specs.Ordering.{is_gt}
 use Rattle.std.specs.Map.{remove_entry, values_of}
-use Rattle.zl_signals.specs.Firsts.{AreMoved, AreNoted}
+use Rattle.zl_signals.specs.Firsts.{AreMoved, AreNoted, IsForOwn}
 use Rattle.zl_signals.specs.Numbered.{AreBelow, AreFirsts, IsFirst, IsFirstFrom, NO_WAIT, Numbered, is_before, is_for}
 use Rattle.zl_signals.specs.Numbered.{number_of, wait_by}
 use Rattle.zl_signals.specs.Waits.{without_first}
@@ -74,6 +74,13 @@ number_is f n is = by_test (f == NO_WAIT) is
 -- the numbers are below any that isn't lower
 pub lower : (m : Numbered) (made high : ℕ) → made ≤ high → AreBelow made m → AreBelow high m
 lower m made high less below n x at = omega (arith, less, below n x at)
+
+-- it is the first for signals of its wait only
+pub for_own : (m : Numbered) → AreBelow NO_WAIT m → (number : ℕ) (x : Watch) (firsts : List ℕ) → wait_by m number ≡ Some x → AreFirsts firsts m
+    → IsForOwn x.mask.0 number firsts
+for_own m below number x firsts there are i inside here =
+    let first : number_of (slice_index firsts i) ≡ Some number = ap number_of (eqb-true (slice_index firsts i) number here) ∙ is_number m below number x there in
+    same_Some (is_for (2 ^ i) x) true (ap (option_map (is_for (2 ^ i))) (sym there) ∙ ((are i inside).1 number first).1)
 
 -- ---- one goes
 

@@ -1,7 +1,13 @@
 -- What becomes of the numbers of the first waits for each signal. No public clause cites this module.
-use Rattle.std.specs.Prelude.{ℕ, ◌≡◌, ◌^◌, ◌<◌, ◌≤◌, true, false, ◌&&◌, ◌==◌, List, slice_index, if◌then◌else◌}
+use Rattle.std.specs.Prelude.{ℕ, ◌≡◌, ◌^◌, ◌<◌, ◌≤◌, ◌≢◌, true, false, ◌&&◌, ◌==◌, List, slice_index, if◌then◌else◌}
 use Rattle.zl_rights.specs.Numbers.{meets}
 use Rattle.zl_signals.specs.Numbered.{is_for, number_of, IsFirstFrom, NO_WAIT, Numbered}
+
+-- the second set is the first without the bit at this place
+abbrev pub IsWithout : (signals place signals2 : ℕ) → Type 0
+IsWithout signals place signals2 =
+    (meets signals2 (2 ^ place) ≡ false) × ((i : ℕ) → i < 32 → i ≢ place → meets signals2 (2 ^ i) ≡ meets signals (2 ^ i))
+    × (meets signals (2 ^ place) ≡ true → signals2 < signals)
 
 -- the number is the least of those at the signals of this set
 abbrev pub IsLeast : List ℕ → ℕ → ℕ → Type 0
@@ -25,3 +31,7 @@ IsMoved m number signals first first2 =
 -- so it is at each signal
 abbrev pub AreMoved : Numbered → ℕ → List ℕ → List ℕ → Type 0
 AreMoved m number firsts firsts2 = (i : ℕ) → i < 32 → IsMoved m number (2 ^ i) (slice_index firsts i) (slice_index firsts2 i)
+
+-- the number stands at signals of this mask only
+abbrev pub IsForOwn : (mask number : ℕ) → List ℕ → Type 0
+IsForOwn mask number firsts = (i : ℕ) → i < 32 → (slice_index firsts i == number) ≡ true → meets mask (2 ^ i) ≡ true

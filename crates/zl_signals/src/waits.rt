@@ -124,7 +124,7 @@ impl Waits {
         let number = found?;
         let wait = self.by_number.remove(&number)?;
         self.indexes.remove(&wait, number);
-        move_on(&mut self.firsts, &self.by_number, number);
+        move_on(&mut self.firsts, &self.by_number, wait.mask, number);
         Some(wait)
     }
 

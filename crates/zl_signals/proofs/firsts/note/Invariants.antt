@@ -1,9 +1,10 @@
-use Rattle.zl_rights.proofs.Common.{◌≡◌, ◌<◌, ◌≤◌, ℕ, length, slice_index}
+use Rattle.zl_rights.proofs.Common.{◌≡◌}
 use Rattle.zl_signals.specs.Firsts.{noted}
+use Rattle.zl_signals.proofs.BySignal.{Done}
 use Rattle.zl_signals.proofs.firsts.note.Given as goal
 
-abbrev pub invariant-loop-place : goal.invariant-loop-place
-invariant-loop-place l =
-    (length l.firsts ≡ 32)
-    × ((i : ℕ) → i < l.place → slice_index l.firsts i ≡ noted l.mask.0 l.number i (slice_index l.initial.firsts i))
-    × ((i : ℕ) → l.place ≤ i → slice_index l.firsts i ≡ slice_index l.initial.firsts i)
+abbrev pub invariant-loop-left : goal.invariant-loop-left
+invariant-loop-left l = Done (λ i first first2. first2 ≡ noted l.fn.mask.0 l.number i first) l.fn.mask.0 l.initial.firsts l.left l.firsts
+
+abbrev pub decreases-loop-left : goal.decreases-loop-left
+decreases-loop-left l = l.left

@@ -1,7 +1,7 @@
 use Rattle.zl_rights.proofs.Common.{false, refl, Some, sym, ◌∙◌, ◌≡◌}
 use Rattle.zl_signals.specs.Numbered.{NO_WAIT, number_of, wait_by}
 use Rattle.zl_signals.proofs.Indexed.{indexes_follow}
-use Rattle.zl_signals.proofs.Numbered.{found_first, goes_first, gone, is_number, lower, none_found, none_goes, others, taken_below, taken_firsts}
+use Rattle.zl_signals.proofs.Numbered.{for_own, found_first, goes_first, gone, is_number, lower, none_found, none_goes, others, taken_below, taken_firsts}
 use Rattle.zl_signals.proofs.waits.Waits.take.Goals as goal
 
 pub returns-in_err-number-clause-earliest : goal.returns-in_err-number-clause-earliest
@@ -23,6 +23,12 @@ invariant_of-self c =
       indexed = rw same old.indexed;
       first = rw same old.first;
     }
+
+pub move_on-requires-clause-own : goal.move_on-requires-clause-own
+move_on-requires-clause-own c =
+    let old = c.args.self.now in
+    let there : wait_by old.by_number c.in_ok-number.number ≡ Some c.in_ok-wait.wait = sym (c.in_ok-wait.ensures {u = tt}).value in
+    for_own old.by_number (lower old.by_number old.made NO_WAIT old.few old.below) c.in_ok-number.number c.in_ok-wait.wait old.firsts there old.first
 
 pub invariant_of-self-2 : goal.invariant_of-self-2
 invariant_of-self-2 c =

@@ -31,7 +31,7 @@ pub use Rattle.std.specs.Ordering.{is_gt, is_lt, ordering_index}
 pub use Rattle.std.specs.Prelude.{IsSome, OnErr, bit_or, is_err, max, min, ◌↔◌}
 pub use Rattle.zl_objects.specs.Awaited.{koid_of}
 pub use Rattle.zl_objects.specs.Below.{HasBelow, HasTask, IsListedNext, IsNextListed, is_one_of, killed_among, looked_at}
-pub use Rattle.zl_objects.specs.Calm.{IsAtRest, IsCalm, IsSteady, KeepsCalm, NoneHolds, StayStill, has_packet, holds_now, is_due, is_given, is_marked}
+pub use Rattle.zl_objects.specs.Calm.{IsAtRest, IsCalm, KeepsCalm, NoneHolds, StayStill, has_packet, holds_now, is_due, is_given, is_marked}
 pub use Rattle.zl_objects.specs.Calm.{is_watched, is_watched_in, slept}
 pub use Rattle.zl_objects.specs.Due.{earlier, earliest_from, is_entry_due, order_at}
 pub use Rattle.zl_objects.specs.Dying.{HasPeerHere, IsKept, IsPeerHere, IsWhole, LetsGo, Thins, is_last, is_named, is_unkept, left_at, unkept_at}
@@ -48,7 +48,7 @@ pub use Rattle.zl_objects.specs.Objects.{kind_here, kind_in, kind_of_pair, new_o
 pub use Rattle.zl_objects.specs.Objects.{reader_in, reader_of, received, received_body, sent, sent_body, started, started_body, started_life, stays_alone}
 pub use Rattle.zl_objects.specs.Objects.{stopped, stopped_body, stopping}
 unfoldable pub use Rattle.zl_objects.specs.Objects.{has_living_child_here}
-pub use Rattle.zl_objects.specs.PortWaits.{AreFound, AreOwn, AreRegistered, IsEarliest, IsFirst, finds, is_entry_at, is_entry_to, is_pair, is_pair_of}
+pub use Rattle.zl_objects.specs.PortWaits.{AreFound, AreOwn, IsEarliest, IsFirst, finds, is_entry_at, is_entry_to, is_pair, is_pair_of}
 pub use Rattle.zl_objects.specs.PortWaits.{without_ended, without_given, without_own}
 pub use Rattle.zl_objects.specs.Ports.{at_port, changed_port, has_place_in, is_port_at, is_port_in, packets_of, reserved_in, reserved_of, unreserved}
 pub use Rattle.zl_objects.specs.Release.{AreKeptBut, Cascades, Releases, all_koids, goes, koids_in, let_go, named_in, none_left, waits_end}

@@ -16,96 +16,96 @@ use Rattle.zl_objects.proofs.Whole.{below_first, changed_whole, pair_whole, end_
 use Rattle.zl_objects.proofs.Whole.{none_out_whole, none_whole, port_or_same_whole, port_whole, received_whole, roomy_whole, slept_whole, sent_or_same_whole}
 use Rattle.zl_objects.proofs.Whole.{stopped_whole, watched_whole}
 
-pub none_kept : (m : Map Object) (next room : ℕ) (d : List ℕ) (waits : List Listed) → m ≡ [] → d ≡ [] → waits ≡ [] → IsKept None m next d room waits
-none_kept m next room d waits none empty no_waits = record { whole = none_whole m next room d none empty; listed = none_listed waits m no_waits none }
+pub none_kept : (m : Map Object) (next room : ℕ) (waits : List Listed) → m ≡ [] → waits ≡ [] → IsKept None m next room waits
+none_kept m next room waits none no_waits = record { whole = none_whole m next room none; listed = none_listed waits m no_waits none }
 
 module _ {waits : List Listed} where
   -- ---- one of the objects is written
 
-  pub more_kept : (m n : Map Object) (next room k : ℕ) (d : List ℕ) → IsKept None m next d room waits → n ≡ update m k held_once_more
-      → IsKept None n next d room waits
-  more_kept m n next room k d kept is = record {
-    whole = more_whole m n next room k d kept.whole is;
+  pub more_kept : (m n : Map Object) (next room k : ℕ) → IsKept None m next room waits → n ≡ update m k held_once_more
+      → IsKept None n next room waits
+  more_kept m n next room k kept is = record {
+    whole = more_whole m n next room k kept.whole is;
     listed = updated_listed held_once_more (λ o. ap (λ (s : SignalState). s.waits) (more_quiet o)) waits m n k kept.listed is;
   }
 
-  pub less_kept : (m n : Map Object) (next room room2 k : ℕ) (d d2 : List ℕ) → IsKept None m next d room waits → n ≡ update m k held_once_less → d2 ≡ []
-      → room2 ≡ room → IsKept None n next d2 room2 waits
-  less_kept m n next room room2 k d d2 kept is none same = record {
-    whole = roomy_whole n n next room room2 d d2 (less_whole m n next room k d kept.whole is) refl (none ∙ sym kept.whole.none) (omega (arith, same));
+  pub less_kept : {m n : Map Object} {next room room2 : ℕ} (k : ℕ) → IsKept None m next room waits → n ≡ update m k held_once_less → room2 ≡ room
+      → IsKept None n next room2 waits
+  less_kept {m} {n} {next} {room} {room2} k kept is same = record {
+    whole = roomy_whole n n next room room2 (less_whole m n next room k kept.whole is) refl (omega (arith, same));
     listed = updated_listed held_once_less (λ o. refl) waits m n k kept.listed is;
   }
 
-  pub slept_kept : (m n : Map Object) (next room k : ℕ) (d : List ℕ) → IsKept None m next d room waits → n ≡ update m k slept → IsKept None n next d room waits
-  slept_kept m n next room k d kept is = record {
-    whole = slept_whole m n next room k d kept.whole is;
+  pub slept_kept : (m n : Map Object) (next room k : ℕ) → IsKept None m next room waits → n ≡ update m k slept → IsKept None n next room waits
+  slept_kept m n next room k kept is = record {
+    whole = slept_whole m n next room k kept.whole is;
     listed = updated_listed slept (λ o. refl) waits m n k kept.listed is;
   }
 
-  pub changed_kept : (m n : Map Object) (next room k clear set : ℕ) (d : List ℕ) → IsKept None m next d room waits → n ≡ update m k (raised_changed clear set)
-      → IsKept None n next d room waits
-  changed_kept m n next room k clear set d kept is = record {
-    whole = changed_whole m n next room k clear set d kept.whole is;
+  pub changed_kept : (m n : Map Object) (next room k clear set : ℕ) → IsKept None m next room waits → n ≡ update m k (raised_changed clear set)
+      → IsKept None n next room waits
+  changed_kept m n next room k clear set kept is = record {
+    whole = changed_whole m n next room k clear set kept.whole is;
     listed = updated_listed (raised_changed clear set) (λ o. refl) waits m n k kept.listed is;
   }
 
-  pub port_kept : (g : Port → Port) → ((p : Port) → (g p).reserved ≡ p.reserved) → (m n : Map Object) (next room k : ℕ) (d : List ℕ)
-      → IsKept None m next d room waits → n ≡ update m k (at_port g) → IsKept None n next d room waits
-  port_kept g same m n next room k d kept is = record {
-    whole = port_whole g same m n next room k d kept.whole is;
+  pub port_kept : (g : Port → Port) → ((p : Port) → (g p).reserved ≡ p.reserved) → (m n : Map Object) (next room k : ℕ)
+      → IsKept None m next room waits → n ≡ update m k (at_port g) → IsKept None n next room waits
+  port_kept g same m n next room k kept is = record {
+    whole = port_whole g same m n next room k kept.whole is;
     listed = updated_listed (at_port g) (λ o. refl) waits m n k kept.listed is;
   }
 
-  pub stopped_kept : (m n : Map Object) (next room k : ℕ) (d : List ℕ) → IsKept None m next d room waits → n ≡ update m k stopped
-      → IsKept None n next d room waits
-  stopped_kept m n next room k d kept is = record {
-    whole = stopped_whole m n next room k d kept.whole is;
+  pub stopped_kept : (m n : Map Object) (next room k : ℕ) → IsKept None m next room waits → n ≡ update m k stopped
+      → IsKept None n next room waits
+  stopped_kept m n next room k kept is = record {
+    whole = stopped_whole m n next room k kept.whole is;
     listed = updated_listed stopped (λ o. refl) waits m n k kept.listed is;
   }
 
-  pub received_kept : (m n : Map Object) (next room k : ℕ) (d : List ℕ) → IsKept None m next d room waits → n ≡ update m k received
-      → IsKept None n next d room waits
-  received_kept m n next room k d kept is = record {
-    whole = received_whole m n next room k d kept.whole is;
+  pub received_kept : (m n : Map Object) (next room k : ℕ) → IsKept None m next room waits → n ≡ update m k received
+      → IsKept None n next room waits
+  received_kept m n next room k kept is = record {
+    whole = received_whole m n next room k kept.whole is;
     listed = updated_listed received (λ o. refl) waits m n k kept.listed is;
   }
 
-  pub sent_or_same_kept : {A B : Type 0} (m n : Map Object) (next room k : ℕ) (d : List ℕ) (message : Message) (v w : Object) (r : Result A B)
-      → IsKept None m next d room waits → OnOk r (w ≡ sent message v) → OnErr r (w ≡ v)
-      → Some v ≡ lookup (is_at (nat_cmp k)) m → n ≡ set_value (is_at (nat_cmp k)) m w → IsKept None n next d room waits
-  sent_or_same_kept m n next room k d message v w r kept is other there set = record {
-    whole = sent_or_same_whole m n next room k d message v w r kept.whole is other there set;
+  pub sent_or_same_kept : {A B : Type 0} (m n : Map Object) (next room k : ℕ) (message : Message) (v w : Object) (r : Result A B)
+      → IsKept None m next room waits → OnOk r (w ≡ sent message v) → OnErr r (w ≡ v)
+      → Some v ≡ lookup (is_at (nat_cmp k)) m → n ≡ set_value (is_at (nat_cmp k)) m w → IsKept None n next room waits
+  sent_or_same_kept m n next room k message v w r kept is other there set = record {
+    whole = sent_or_same_whole m n next room k message v w r kept.whole is other there set;
     listed = updated_or_listed (sent message) (λ o. refl) waits m n k v w r kept.listed is other there set;
   }
 
   pub port_or_same_kept : {A B : Type 0} (g : Port → Port) → ((p : Port) → (g p).reserved ≡ p.reserved)
-      → (m n : Map Object) (next room k : ℕ) (d : List ℕ) (v w : Object) (r : Result A B) → IsKept None m next d room waits → OnOk r (w ≡ at_port g v)
-      → OnErr r (w ≡ v) → Some v ≡ lookup (is_at (nat_cmp k)) m → n ≡ set_value (is_at (nat_cmp k)) m w → IsKept None n next d room waits
-  port_or_same_kept g same m n next room k d v w r kept is other there set = record {
-    whole = port_or_same_whole g same m n next room k d v w r kept.whole is other there set;
+      → (m n : Map Object) (next room k : ℕ) (v w : Object) (r : Result A B) → IsKept None m next room waits → OnOk r (w ≡ at_port g v)
+      → OnErr r (w ≡ v) → Some v ≡ lookup (is_at (nat_cmp k)) m → n ≡ set_value (is_at (nat_cmp k)) m w → IsKept None n next room waits
+  port_or_same_kept g same m n next room k v w r kept is other there set = record {
+    whole = port_or_same_whole g same m n next room k v w r kept.whole is other there set;
     listed = updated_or_listed (at_port g) (λ o. refl) waits m n k v w r kept.listed is other there set;
   }
 
   -- ---- other room, and one object more or less
 
-  pub roomy_kept : (m n : Map Object) (next room room2 : ℕ) (d d2 : List ℕ) → IsKept None m next d room waits → n ≡ m → d2 ≡ d → room ≤ room2
-      → IsKept None n next d2 room2 waits
-  roomy_kept m n next room room2 d d2 kept is same more =
-      record { whole = roomy_whole m n next room room2 d d2 kept.whole is same more; listed = rw is kept.listed }
+  pub roomy_kept : (m n : Map Object) (next room room2 : ℕ) → IsKept None m next room waits → n ≡ m → room ≤ room2
+      → IsKept None n next room2 waits
+  roomy_kept m n next room room2 kept is more =
+      record { whole = roomy_whole m n next room room2 kept.whole is more; listed = rw is kept.listed }
 
-  pub inserted_kept : (m n : Map Object) (next room room2 : ℕ) (d d2 : List ℕ) (o : Object) → IsKept None m next d room waits → is_end_body o.body ≡ false
-      → reserved_of o.body ≡ 0 → o.signals.waits ≡ [] → d2 ≡ d → length m + 1 ≤ room2 → n ≡ insert_entry nat_cmp m next o
-      → IsKept None n (next + 1) d2 room2 waits
-  inserted_kept m n next room room2 d d2 o kept alone empty fresh same more into = record {
-    whole = inserted_whole m n next room room2 d d2 o kept.whole alone empty fresh same more into;
+  pub inserted_kept : (m n : Map Object) (next room room2 : ℕ) (o : Object) → IsKept None m next room waits → is_end_body o.body ≡ false
+      → reserved_of o.body ≡ 0 → o.signals.waits ≡ [] → length m + 1 ≤ room2 → n ≡ insert_entry nat_cmp m next o
+      → IsKept None n (next + 1) room2 waits
+  inserted_kept m n next room room2 o kept alone empty fresh more into = record {
+    whole = inserted_whole m n next room room2 o kept.whole alone empty fresh more into;
     listed = inserted_listed waits m n next o kept.whole.below fresh kept.listed into;
   }
 
-  pub pair_kept : (pair : Pair) (m n n2 : Map Object) (next room room2 handles : ℕ) (d d2 : List ℕ) (o o2 : Object) → IsKept None m next d room waits
-      → o ≡ end_of pair (next + 1) handles → o2 ≡ end_of pair next handles → d2 ≡ d → length m + 2 ≤ room2
-      → n ≡ insert_entry nat_cmp m next o → n2 ≡ insert_entry nat_cmp n (next + 1) o2 → IsKept None n2 (next + 1 + 1) d2 room2 waits
-  pair_kept pair m n n2 next room room2 handles d d2 o o2 kept first second same more into into2 = record {
-    whole = pair_whole pair m n n2 next room room2 handles d d2 o o2 kept.whole first second same more into into2;
+  pub pair_kept : (pair : Pair) (m n n2 : Map Object) (next room room2 handles : ℕ) (o o2 : Object) → IsKept None m next room waits
+      → o ≡ end_of pair (next + 1) handles → o2 ≡ end_of pair next handles → length m + 2 ≤ room2
+      → n ≡ insert_entry nat_cmp m next o → n2 ≡ insert_entry nat_cmp n (next + 1) o2 → IsKept None n2 (next + 1 + 1) room2 waits
+  pair_kept pair m n n2 next room room2 handles o o2 kept first second more into into2 = record {
+    whole = pair_whole pair m n n2 next room room2 handles o o2 kept.whole first second more into into2;
     listed = inserted_listed waits n n2 (next + 1) o2 (below_first m n next o kept.whole.below into) (rw second refl)
         (inserted_listed waits m n next o kept.whole.below (rw first refl) kept.listed into) into2;
   }
@@ -113,12 +113,12 @@ module _ {waits : List Listed} where
   -- ---- waits
 
   -- the wait is registered last of all, and a place is reserved for it
-  pub watched_kept : (order : ℕ) (x : Wait) (m n : Map Object) (next room : ℕ) (d : List ℕ) (waits2 : List Listed) → IsTrue (is_port_at m x.port)
-      → IsTrue (has_key m x.object) → IsKept None m next d room waits
+  pub watched_kept : (order : ℕ) (x : Wait) (m n : Map Object) (next room : ℕ) (waits2 : List Listed) → IsTrue (is_port_at m x.port)
+      → IsTrue (has_key m x.object) → IsKept None m next room waits
       → n ≡ update (update m x.port (at_port with_place)) x.object (watched (watch_of order x)) → waits2 ≡ waits ++ entry_of order x ∷ []
-      → IsKept None n next d room waits2
-  watched_kept order x m n next room d waits2 port there kept is more = rw more record {
-    whole = watched_whole (watch_of order x) mid n next room x.object d still (made_whole (watch_of order x) m mid next room d port kept.whole refl) is;
+      → IsKept None n next room waits2
+  watched_kept order x m n next room waits2 port there kept is more = rw more record {
+    whole = watched_whole (watch_of order x) mid n next room x.object still (made_whole (watch_of order x) m mid next room port kept.whole refl) is;
     listed = watched_listed order x waits mid n still (updated_listed (at_port with_place) (λ o. refl) waits m mid x.port kept.listed refl) is;
   }
     where
@@ -129,7 +129,7 @@ module _ {waits : List Listed} where
       still = has_key-update m x.port (at_port with_place) x.object ∙ there
 
   -- the earliest wait at the object k that passes is taken out there, and of the list the one with its order
-  module _ (k : ℕ) (test : WaitValue → Bool) {m n : Map Object} {next room : ℕ} {d : List ℕ} (kept : IsKept None m next d room waits)
+  module _ (k : ℕ) (test : WaitValue → Bool) {m n : Map Object} {next room : ℕ} (kept : IsKept None m next room waits)
       (out : n ≡ update m k (unwatched (λ x. test (wait_at k x)))) where
     abbrev is_taken : WaitValue → Bool
     is_taken x = (x.object == k) && test x
@@ -144,8 +144,8 @@ module _ {waits : List Listed} where
       none_out : without_first (λ x. is_taken (listed_value x)) waits ≡ waits
       none_out = none_first (λ x. is_taken (listed_value x)) waits (first_listed ∙ ap (option_map (listed_at k)) none)
 
-      pub none_out_kept : IsKept None n next d room waits
-      none_out_kept = record { whole = none_out_whole (λ x. test (wait_at k x)) m n next room k d kept.whole out none; listed = rw none_out at both_out }
+      pub none_out_kept : IsKept None n next room waits
+      none_out_kept = record { whole = none_out_whole (λ x. test (wait_at k x)) m n next room k kept.whole out none; listed = rw none_out at both_out }
 
       pub none_out_seen : map listed_value waits ≡ without_first is_taken (map listed_value waits)
       none_out_seen = sym (first_map listed_value is_taken waits ∙ ap (λ (xs : List Listed). map listed_value xs) none_out)
@@ -157,9 +157,9 @@ module _ {waits : List Listed} where
 
       -- its place was given back, or holds its packet
       pub gone_kept : (g : Port → Port) → ((p : Port) → (g p).reserved ≡ p.reserved - 1) → (n2 : Map Object) → n2 ≡ update n x.port (at_port g)
-          → IsKept None n2 next d room waits2
+          → IsKept None n2 next room waits2
       gone_kept g fewer n2 is = record {
-        whole = gone_whole (λ x. test (wait_at k x)) m n next room k d kept.whole out x found g fewer n2 is;
+        whole = gone_whole (λ x. test (wait_at k x)) m n next room k kept.whole out x found g fewer n2 is;
         listed = updated_listed (at_port g) (λ o. refl) waits2 n n2 x.port (rw one_out both_out) is;
       }
 
@@ -167,10 +167,10 @@ module _ {waits : List Listed} where
       gone_seen = ap (λ (xs : List Listed). map listed_value xs) one_out ∙ sym (first_map listed_value is_taken waits)
 
   -- handles went, and with them waits of which the object or the port went
-  pub left_kept : {ks : List ℕ} {m m2 : Map Object} {next room room2 : ℕ} {d d2 : List ℕ} {waits2 : List Listed} → IsLeft ks m m2
-      → IsKept None m next d room waits → d2 ≡ [] → room2 ≡ room → waits2 ≡ filter (is_entry_there m2) waits → IsKept None m2 next d2 room2 waits2
-  left_kept {ks} {m} {m2} {next} {room} {room2} {d} {d2} left kept none same is = record {
-    whole = whole_left ks m m2 next room room2 d d2 left.cascades (left.places kept.whole.places) kept.whole none same;
+  pub left_kept : {ks : List ℕ} {m m2 : Map Object} {next room room2 : ℕ} {waits2 : List Listed} → IsLeft ks m m2
+      → IsKept None m next room waits → room2 ≡ room → waits2 ≡ filter (is_entry_there m2) waits → IsKept None m2 next room2 waits2
+  left_kept {ks} {m} {m2} {next} {room} {room2} left kept same is = record {
+    whole = whole_left ks m m2 next room room2 left.cascades (left.places kept.whole.places) kept.whole same;
     listed = rw is (left_listed waits m m2 (waits_left left kept.whole.places) kept.listed);
   }
 

@@ -30,6 +30,7 @@ pub mod Released
 pub mod Removing
 pub mod Rising
 pub mod Searching
+pub mod Shedding
 pub mod Showing
 pub mod Sleeping
 pub mod Sums

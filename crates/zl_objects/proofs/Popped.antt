@@ -1,5 +1,5 @@
 -- What is left once the newest object was taken back, which was no end, and at which nothing was registered.
-use Rattle.zl_objects.proofs.Common.{All-weaker, BTreeMap, Body, Bool, Children, IfSome, IsAtRest, IsCalm, IsIndexed, IsPeerHere, IsSome, IsSteady, IsTrue}
+use Rattle.zl_objects.proofs.Common.{All-weaker, BTreeMap, Body, Bool, Children, IfSome, IsAtRest, IsCalm, IsIndexed, IsPeerHere, IsKept, IsSome, IsTrue}
 use Rattle.zl_objects.proofs.Common.{IsUpperBound, IsWhole, List, Listed, Map, None, Object, Option, OthersStayListed, Sleeper, Some, [], and_parts, ap, arith}
 use Rattle.zl_objects.proofs.Common.{below_all, cases_Bool, ending_waits, ends_waits, eq-eqb, eqb-true, false, false≢true, get, get-without, has_key}
 use Rattle.zl_objects.proofs.Common.{if◌then◌else◌, inl, inr, is_alive, is_at, is_end_at, is_end_body, is_lt, is_marked, is_sorted, is_watched_in, keeper_of}
@@ -68,13 +68,12 @@ module _ {children : Children} (m n : Map Object) (koid : ℕ) (o : Object) (at 
   below_newest : (next j : ℕ) → next ≡ koid + 1 → j < next → (koid == j) ≡ false → j < koid
   below_newest next j newest lower apart = grind (arith, nat_tests, newest, lower, apart)
 
-  popped_whole : (next room : ℕ) (d : List ℕ) → next ≡ koid + 1 → IsWhole None m next d room → IsWhole None n koid d room
-  popped_whole next room d newest whole = record {
+  popped_whole : (next room : ℕ) → next ≡ koid + 1 → IsWhole None m next room → IsWhole None n koid room
+  popped_whole next room newest whole = record {
     below = λ j there. below j there (cases_Bool (koid == j));
     peers = λ j q here. let was = found_left m koid j q (rw left at here) in by_peer j q was.1 (peer_of q.body) refl (whole.peers j q was.1);
     places = rw ended (ending_places m koid o at (rw (← left) once) whole.places);
     enough = omega (arith, once, whole.enough);
-    none = whole.none;
   }
     where
       below : (j : ℕ) → IsTrue (has_key n j) → IsTrue (koid == j) ⊎ ((koid == j) ≡ false) → j < koid
@@ -113,27 +112,33 @@ module _ {children : Children} (m n : Map Object) (koid : ℕ) (o : Object) (at 
         calm = both.1.calm;
       }
 
-pub taken_back : {marks marks2 : Marks} {children children2 : Children} {waits : List Listed} {sleepers : List Sleeper} {d : List ℕ} {room : ℕ}
-    (m n : BTreeMap ℕ Object) (next koid : ℕ) (r : Option (ℕ × Object)) → IsSteady marks children m.entries next d room waits sleepers → next ≡ koid + 1
+-- the invariant of the objects, of all waits and of who may be blocked
+pub record IsSteady (marks : Marks) (children : Children) (m : Map Object) (next_koid room : ℕ) (waits : List Listed) (sleepers : List Sleeper) : Type 0 where
+  pub kept : IsKept None m next_koid room waits
+  pub calm : IsCalm (is_marked marks) m next_koid sleepers
+  pub indexed : IsIndexed children m
+
+pub taken_back : {marks marks2 : Marks} {children children2 : Children} {waits : List Listed} {sleepers : List Sleeper} {room : ℕ}
+    (m n : BTreeMap ℕ Object) (next koid : ℕ) (r : Option (ℕ × Object)) → IsSteady marks children m.entries next room waits sleepers → next ≡ koid + 1
     → is_end_at m.entries koid ≡ false → reserved_in (get m.entries koid) ≡ 0 → waits_in (get m.entries koid) ≡ [] → IsTrue (has_key m.entries koid)
     → IfSome (get m.entries koid) (λ o. o.asleep ≡ false) → OthersStayListed koid children children2 → IsSome r ↔ (0 < length m.entries)
     → IfSome r (λ p. lookup (is_at (nat_cmp p.0)) m.entries ≡ Some p.1) → IfSome r (λ p. IsUpperBound nat_cmp m p.0)
     → IfSome r (λ p. m.entries ≡ n.entries ++ p ∷ []) → ((j : ℕ) → IsTrue (is_marked marks j) → IsTrue (is_marked marks2 j))
     → (IsTrue (is_watched_in (get n.entries (parent_at m.entries koid))) → IsTrue (is_marked marks2 (parent_at m.entries koid)))
-    → IsSteady marks2 children2 n.entries koid d room waits sleepers
-taken_back {marks} {marks2} {children} {children2} {waits} {sleepers} {d} {room} m n next koid r steady newest alone unreserved unwatched there unslept others
+    → IsSteady marks2 children2 n.entries koid room waits sleepers
+taken_back {marks} {marks2} {children} {children2} {waits} {sleepers} {room} m n next koid r steady newest alone unreserved unwatched there unslept others
     some value greatest removal more job = by_object (get m.entries koid) refl
   where
     out : (n.entries ≡ without m.entries koid) × (length n.entries + 1 ≡ length m.entries)
     out = newest_out m n next koid r steady.indexed.in_order steady.kept.whole.below newest there some value greatest removal
 
-    by_object : (q : Option Object) → get m.entries koid ≡ q → IsSteady marks2 children2 n.entries koid d room waits sleepers
+    by_object : (q : Option Object) → get m.entries koid ≡ q → IsSteady marks2 children2 n.entries koid room waits sleepers
     by_object None is = absurd (false≢true (rw is at there))
     by_object (Some o) is =
         let none : ends_waits o ≡ false = rw (rw is at unreserved, rw is at unwatched) refl in
         record {
           kept = record {
-            whole = popped_whole m.entries n.entries koid o is (rw is at alone) none steady.indexed out.0 out.1 next room d newest steady.kept.whole;
+            whole = popped_whole m.entries n.entries koid o is (rw is at alone) none steady.indexed out.0 out.1 next room newest steady.kept.whole;
             listed = same_listed waits m.entries n.entries (none_ended m.entries n.entries koid o is
                 (ended m.entries n.entries koid o is (rw is at alone) none steady.indexed out.0 out.1) none) steady.kept.listed;
           };

@@ -1,12 +1,11 @@
 -- What is left of the objects once handles have gone: each as it was, and the invariant holds.
-use Rattle.zl_objects.proofs.Common.{AreKeptBut, Body, Bool, Cascades, HasPeerHere, HavePlaces, IsPeerHere, IsTrue, IsWhole, KeepsWaits, Kind, LetsGo, List}
-use Rattle.zl_objects.proofs.Common.{Map, None, Object, Objects, Option, Releases, Sleeper, Some, Thins, [], ap, append-nil, append_assoc, arith, body_value}
+use Rattle.zl_objects.proofs.Common.{AreKeptBut, Body, Cascades, HasPeerHere, HavePlaces, IsPeerHere, IsTrue, IsWhole, KeepsWaits, Kind, LetsGo, List}
+use Rattle.zl_objects.proofs.Common.{Map, None, Object, Objects, Option, Releases, Some, Thins, [], ap, append-nil, append_assoc, arith, body_value}
 use Rattle.zl_objects.proofs.Common.{budget, cases_Bool, cond, count_by, count_by-le-length, false, false≢true, get, goes, has_key, has_living_child_here}
 use Rattle.zl_objects.proofs.Common.{held_once_less, if◌then◌else◌, inl, inr, is_alive, is_child, is_kept, is_koid, is_named, is_some, is_sorted-update, job_in}
 use Rattle.zl_objects.proofs.Common.{job_of, kind_here, kind_in, length, length-update, let_go, list_any, named_in, none_left, or_left, or_right, queue_held}
 use Rattle.zl_objects.proofs.Common.{refl, same_Some, stays_alone, stopped, stopped_body, stopping, subst, sym, true, unreserved, update, waits_end, without, ℕ}
 use Rattle.zl_objects.proofs.Common.{◌++◌, ◌<◌, ◌==◌, ◌||◌, ◌∙◌, ◌∷◌, ◌≡◌, ◌≤◌, ◌⊎◌}
-use Rattle.zl_rights.specs.World.{Wait}
 use Rattle.zl_objects.specs.declared.object.Body.TheVariants as body
 use Rattle.zl_objects.proofs.Bare.{IsAlike, alike, length_same, named_same, of_body}
 use Rattle.zl_objects.proofs.Ending.{all_ports_there}
@@ -81,18 +80,17 @@ cascaded_named _ _ _ (waits_end ks m mid m2 same more) = omega (arith, cascaded_
 
 -- ---- the invariant
 
-pub starts : (m : Map Object) (next room : ℕ) (d : List ℕ) → IsWhole None m next d room → budget m d ≤ room
+pub starts : {m : Map Object} {next room : ℕ} {d : List ℕ} → IsWhole None m next room → d ≡ [] → budget m d ≤ room
 unfolding budget
-starts m next room d whole = rw whole.none (omega (arith, whole.enough, count_by-le-length is_named m))
+starts {m} whole none = rw none (omega (arith, whole.enough, count_by-le-length is_named m))
 
-pub whole_left : (ks : List ℕ) (m m2 : Map Object) (next room room2 : ℕ) (d d2 : List ℕ) → Cascades ks m m2 → HavePlaces m2 → IsWhole None m next d room
-    → d2 ≡ [] → room2 ≡ room → IsWhole None m2 next d2 room2
-whole_left ks m m2 next room room2 d d2 cascades places whole none same = record {
+pub whole_left : (ks : List ℕ) (m m2 : Map Object) (next room room2 : ℕ) → Cascades ks m m2 → HavePlaces m2 → IsWhole None m next room → room2 ≡ room
+    → IsWhole None m2 next room2
+whole_left ks m m2 next room room2 cascades places whole same = record {
   below = λ k there. by_object k (get m2 k) refl there;
   peers = λ k o at. peers k o at;
   places = places;
   enough = omega (arith, same, whole.enough, cascaded_shorter ks m m2 cascades);
-  none = none;
 }
   where
     was : (k : ℕ) (o : Object) → get m2 k ≡ Some o → Was m k o
@@ -130,14 +128,11 @@ whole_left ks m m2 next room room2 d d2 cascades places whole none same = record
 pub cascades_of : (ks : List ℕ) (m m2 : Map Object) (d d2 : List ℕ) → LetsGo ks m d m2 d2 → Cascades ks m m2
 cascades_of ks m m2 d d2 went = rw (append-nil ks) at (went.leads [] m2 (none_left m2))
 
-pub released : {sleepers : List Sleeper} {crowded : Bool} (ks loose : List ℕ) (m m2 : Map Object) (next made made2 : ℕ) (waits waits2 : List Wait)
-    (d d2 : List ℕ) → LetsGo ks m d m2 d2 → d ≡ loose → d2 ≡ []
-    → Releases ks loose (record { objects = m; next_koid = next; waits = waits; waits_made = made; sleepers = sleepers; crowded = crowded })
-    (record { objects = m2; next_koid = next; waits = waits2; waits_made = made2; sleepers = sleepers; crowded = crowded })
-released {sleepers} {crowded} ks loose m m2 next made made2 waits waits2 d d2 went noted none = record {
-  cascades = cascades_of ks m m2 d d2 went;
-  keeps = λ others kept. rw (none, append-nil others) at (went.notes others (rw noted kept));
-  koids = refl;
+pub released : {ks loose d : List ℕ} {r r2 : Objects} → LetsGo ks r.objects d r2.objects [] → d ≡ loose → r2.next_koid ≡ r.next_koid → Releases ks loose r r2
+released {ks} {loose} {d} {r} {r2} went noted same = record {
+  cascades = cascades_of ks r.objects r2.objects d [] went;
+  keeps = λ others kept. rw (append-nil others) at (went.notes others (rw noted kept));
+  koids = same;
 }
 
 -- handles went, and waits ended with their ports alone
@@ -164,24 +159,22 @@ waits_left {ks} {m} {m2} left have k o at =
     }
 
 -- a process that has ended and then its job are looked at
-module _ (m m1 m2 : Map Object) (pid job : ℕ) (first : LetsGo [] m (pid ∷ []) m1 []) (second : LetsGo [] m1 (job ∷ []) m2 []) where
-  pub both_released : (sleepers : List Sleeper) (crowded : Bool) (next made made2 : ℕ) (waits waits2 : List Wait)
-      → Releases [] (job ∷ pid ∷ []) (record { objects = m; next_koid = next; waits = waits; waits_made = made; sleepers = sleepers; crowded = crowded })
-      (record { objects = m2; next_koid = next; waits = waits2; waits_made = made2; sleepers = sleepers; crowded = crowded })
-  both_released sleepers crowded next made made2 waits waits2 = record {
-    cascades = first.leads [] m2 (second.leads [] m2 (none_left m2));
-    keeps = λ others kept. rw (append-nil others) at
-        (second.notes others
-        (rw (append-nil (others ++ job ∷ [])) at (first.notes (others ++ job ∷ []) (rw (append_assoc others (job ∷ []) (pid ∷ [])) kept))));
-    koids = refl;
-  }
+pub both_released : {pid job : ℕ} {m : Map Object} {r r2 : Objects} → LetsGo [] r.objects (pid ∷ []) m [] → LetsGo [] m (job ∷ []) r2.objects []
+    → r2.next_koid ≡ r.next_koid → Releases [] (job ∷ pid ∷ []) r r2
+both_released {pid} {job} {m} {r} {r2} first second same = record {
+  cascades = first.leads [] r2.objects (second.leads [] r2.objects (none_left r2.objects));
+  keeps = λ others kept. rw (append-nil others) at
+      (second.notes others
+      (rw (append-nil (others ++ job ∷ [])) at (first.notes (others ++ job ∷ []) (rw (append_assoc others (job ∷ []) (pid ∷ [])) kept))));
+  koids = same;
+}
 
-  pub both_left : IsLeft [] m m2
-  both_left = record {
-    cascades = first.leads [] m2 (second.leads [] m2 (none_left m2));
-    places = λ have. second.places (first.places have);
-    thins = thin_then m m1 m2 first.thins second.thins;
-  }
+pub both_left : {pid job : ℕ} {m m1 m2 : Map Object} → LetsGo [] m (pid ∷ []) m1 [] → LetsGo [] m1 (job ∷ []) m2 [] → IsLeft [] m m2
+both_left {pid} {job} {m} {m1} {m2} first second = record {
+  cascades = first.leads [] m2 (second.leads [] m2 (none_left m2));
+  places = λ have. second.places (first.places have);
+  thins = thin_then m m1 m2 first.thins second.thins;
+}
 
 -- ---- for callers
 

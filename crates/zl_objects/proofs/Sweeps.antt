@@ -1,11 +1,11 @@
 -- A sweep that goes from koid to koid and leaves what something keeps.
 use Rattle.zl_objects.proofs.Common.{AreKeptBut, Bool, Cascades, HavePlaces, IsLeastFrom, IsNext, IsTrue, LetsGo, List, Map, None, Object, Some, Thins, []}
 use Rattle.zl_objects.proofs.Common.{all_killed, all_koids, ap, append-nil, arith, budget, cases_Bool, count_by, each, eqb-true, false, false≢true, filter, get}
-use Rattle.zl_objects.proofs.Common.{has_key, if◌then◌else◌, inl, inr, is_kept, is_named, is_sorted, is_within_here, killed_if, length, list_any, map, nat_cmp}
+use Rattle.zl_objects.proofs.Common.{if◌then◌else◌, inl, inr, is_kept, is_named, is_sorted, is_within_here, killed_if, list_any, map, nat_cmp}
 use Rattle.zl_objects.proofs.Common.{nat_lt, nat_tests, none-some, none_left, or_cases, or_left, or_right, refl, sym, true, ℕ, ◌++◌, ◌+◌, ◌<◌, ◌==◌, ◌∙◌, ◌∷◌}
 use Rattle.zl_objects.proofs.Common.{◌≡◌, ◌≤◌}
 use Rattle.zl_objects.proofs.Budget.{none_went, noted_last, noted_left, thin_then}
-use Rattle.zl_objects.proofs.Released.{cascaded_named, cascaded_shorter, cascaded_was, was_there}
+use Rattle.zl_objects.proofs.Released.{cascaded_named}
 
 -- ---- koids above another
 
@@ -105,15 +105,6 @@ sweep_ends m m2 from sweeps none = record {
   places = sweeps.places;
   thins = sweeps.thins;
 }
-
--- ---- on the way
-
-module _ (m m2 : Map Object) (from : ℕ) (sweeps : Sweeps from m m2) where
-  pub swept_shorter : length m2 ≤ length m
-  swept_shorter = cascaded_shorter [] m m2 (sweeps.leads [] m2 (none_left m2))
-
-  pub swept_there : (k : ℕ) → IsTrue (has_key m2 k) → IsTrue (has_key m k)
-  swept_there = was_there m m2 (cascaded_was [] m m2 (sweeps.leads [] m2 (none_left m2)))
 
 -- a kill leaves the koids
 pub killed_koids : (m : Map Object) (task : ℕ) → all_koids (all_killed m task) ≡ all_koids m

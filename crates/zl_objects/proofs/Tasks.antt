@@ -29,26 +29,26 @@ killed_same b = stays_same b
 -- ---- one of them
 
 module _ {waits : List Listed} where
-  pub started_kept : (m n : Map Object) (next room k : ℕ) (d : List ℕ) → IsKept None m next d room waits → n ≡ update m k started
-      → IsKept None n next d room waits
-  started_kept m n next room k d kept is = record {
-    whole = rebodied_whole started_body started_same m n next room k d kept.whole is;
+  pub started_kept : (m n : Map Object) (next room k : ℕ) → IsKept None m next room waits → n ≡ update m k started
+      → IsKept None n next room waits
+  started_kept m n next room k kept is = record {
+    whole = rebodied_whole started_body started_same m n next room k kept.whole is;
     listed = updated_listed started (λ o. refl) waits m n k kept.listed is;
   }
 
   -- a policy was set, or that was refused
-  pub policy_or_same_kept : {A B : Type 0} (c : Condition) (a : Action) (m n : Map Object) (next room k : ℕ) (d : List ℕ) (v w : Object) (r : Result A B)
-      → IsKept None m next d room waits → OnOk r (w ≡ with_policy_set c a v) → OnErr r (w ≡ v)
-      → Some v ≡ lookup (is_at (nat_cmp k)) m → n ≡ set_value (is_at (nat_cmp k)) m w → IsKept None n next d room waits
-  policy_or_same_kept c a m n next room k d v w r kept is other there set = record {
+  pub policy_or_same_kept : {A B : Type 0} (c : Condition) (a : Action) (m n : Map Object) (next room k : ℕ) (v w : Object) (r : Result A B)
+      → IsKept None m next room waits → OnOk r (w ≡ with_policy_set c a v) → OnErr r (w ≡ v)
+      → Some v ≡ lookup (is_at (nat_cmp k)) m → n ≡ set_value (is_at (nat_cmp k)) m w → IsKept None n next room waits
+  policy_or_same_kept c a m n next room k v w r kept is other there set = record {
     whole = by_result r is other;
     listed = updated_or_listed (with_policy_set c a) (λ o. refl) waits m n k v w r kept.listed is other there set;
   }
     where
-      by_result : {A B : Type 0} (r : Result A B) → OnOk r (w ≡ with_policy_set c a v) → OnErr r (w ≡ v) → IsWhole None n next d room
+      by_result : {A B : Type 0} (r : Result A B) → OnOk r (w ≡ with_policy_set c a v) → OnErr r (w ≡ v) → IsWhole None n next room
       by_result (Ok x) is other =
-          rebodied_whole (with_policy_body c a) (policy_same c a) m n next room k d kept.whole (written m n k (with_policy_set c a) v w there is set)
-      by_result (Err e) is other = roomy_whole m n next room room d d kept.whole (written_back m n k v w there other set) refl (omega arith)
+          rebodied_whole (with_policy_body c a) (policy_same c a) m n next room k kept.whole (written m n k (with_policy_set c a) v w there is set)
+      by_result (Err e) is other = roomy_whole m n next room room kept.whole (written_back m n k v w there other set) (omega arith)
 
 -- ---- all of them
 
@@ -100,13 +100,12 @@ module _ (kills : ℕ → Bool) where
   still : (m : Map Object) (next : ℕ) (b : Body) → HasPeerHere m next b → HasPeerHere (each f m) next b
   still m next b = peer_stays m (each f m) next next b (λ p has. (has.0, λ there. kind_each m p ∙ has.1 (sym (has_each m p) ∙ there)))
 
-  each_whole : (m : Map Object) (next room : ℕ) (d : List ℕ) → IsWhole None m next d room → IsWhole None (each f m) next d room
-  each_whole m next room d whole = record {
+  each_whole : (m : Map Object) (next room : ℕ) → IsWhole None m next room → IsWhole None (each f m) next room
+  each_whole m next room whole = record {
     below = λ k there. whole.below k (sym (has_each m k) ∙ there);
     peers = λ k o at. by_object k o (get m k) refl (sym (get-each m f k) ∙ at);
     places = places;
     enough = omega (arith, length_each m, whole.enough);
-    none = whole.none;
   }
     where
       by_object : (k : ℕ) (o : Object) (q : Option Object) → get m k ≡ q → option_map (f k) (get m k) ≡ Some o → HasPeerHere (each f m) next o.body
@@ -120,14 +119,14 @@ module _ (kills : ℕ → Bool) where
           let reserved : reserved_in (get (each f m) j) ≡ reserved_in (get m j) = seen_each reserved_in (λ i o. (stays i o).reserved) m j in
           omega (arith, waits_each m j, reserved, whole.places j)
 
-  each_kept : {waits : List Listed} (m : Map Object) (next room : ℕ) (d : List ℕ) → IsKept None m next d room waits → IsKept None (each f m) next d room waits
-  each_kept {waits} m next room d kept = record {
-    whole = each_whole m next room d kept.whole;
+  each_kept : {waits : List Listed} (m : Map Object) (next room : ℕ) → IsKept None m next room waits → IsKept None (each f m) next room waits
+  each_kept {waits} m next room kept = record {
+    whole = each_whole m next room kept.whole;
     listed = same_listed waits m (each f m) (seen_each waits_in (λ j o. same_waits j o) m) kept.listed;
   }
 
 -- a kill
-pub killed_kept : {waits : List Listed} (m n : Map Object) (next room task : ℕ) (d : List ℕ) → IsKept None m next d room waits → n ≡ all_killed m task
-    → IsKept None n next d room waits
+pub killed_kept : {waits : List Listed} (m n : Map Object) (next room task : ℕ) → IsKept None m next room waits → n ≡ all_killed m task
+    → IsKept None n next room waits
 unfolding all_killed
-killed_kept m n next room task d kept is = rw is (each_kept (is_within_here m task) m next room d kept)
+killed_kept m n next room task kept is = rw is (each_kept (is_within_here m task) m next room kept)

@@ -1,5 +1,5 @@
 -- The waits that end with an object that goes are taken out of the list of all waits, one after another.
-use Rattle.zl_objects.proofs.Common.{AreListed, AreOwn, AreRegistered, Bool, Cascades, HavePlaces, HaveSameWaits, IsTrue, List, Listed, Map, None, Object}
+use Rattle.zl_objects.proofs.Common.{AreListed, AreOwn, Bool, Cascades, HavePlaces, HaveSameWaits, IsTrue, List, Listed, Map, None, Object}
 use Rattle.zl_objects.proofs.Common.{Option, Some, Wait, Watch, [], and_from, and_parts, ap, arith, at_port, cases_Bool, cond, drop, each, ending_port}
 use Rattle.zl_objects.proofs.Common.{ending_waits, eq-eqb, eqb-true, false, false≢true, filter, find, get, get-each, get-update, get-without, giving_back}
 use Rattle.zl_objects.proofs.Common.{has_key, if◌then◌else◌, inl, inr, is_at_port, is_entry_at, is_entry_there, is_entry_to, is_sorted, is_sorted-update}
@@ -273,9 +273,9 @@ ended_left k reserved xs list m listed = by_test reserved
     by_test false = own
 
 -- what is left is what is there
-pub ended_there : (k : ℕ) (reserved : Bool) (list : List Listed) (m : Map Object) → has_key m k ≡ false → AreRegistered (without_ended k reserved list) m
-    → without_ended k reserved list ≡ filter (is_entry_there m) list
-ended_there k reserved list m gone left = sym (all_there (without_ended k reserved list) m left.places left.listed) ∙ by_test reserved
+pub ended_there : (k : ℕ) (reserved : Bool) (list : List Listed) (m : Map Object) → has_key m k ≡ false → HavePlaces m
+    → AreListed (without_ended k reserved list) m → without_ended k reserved list ≡ filter (is_entry_there m) list
+ended_there k reserved list m gone places listed = sym (all_there (without_ended k reserved list) m places listed) ∙ by_test reserved
   where
     at_other : (x : Listed) → IsTrue (is_entry_there m x) → IsTrue (not (is_entry_at k x))
     at_other x there = ap not
@@ -313,21 +313,12 @@ left_then {ks} {m} {m2} list cascades first second =
         and_from (has_key m x.wait.object) (has_key m x.wait.port) (none_came cascades x.wait.object parts.0) (none_came cascades x.wait.port parts.1)
 
 -- k went, its queue, and the waits that end with it
-module _ {ks : List ℕ} (m m3 : Map Object) (list list2 : List Listed) (k : ℕ) (o : Object) (registered : AreRegistered list m)
+module _ {ks : List ℕ} (m m3 : Map Object) (list list2 : List Listed) (k : ℕ) (o : Object) (listed : AreListed list m)
     (is : list2 ≡ without_ended k (nat_lt 0 (reserved_of o.body)) list) (still : HaveSameWaits (ending_waits k o (without m k)) m3)
     (cascades : Cascades ks (ending_waits k o (without m k)) m3) (places : HavePlaces m3) where
-  left : AreRegistered (without_ended k (nat_lt 0 (reserved_of o.body)) list) m3
-  left = record {
-    listed = same_listed _ (ending_waits k o (without m k)) m3 still
-        (ended_left k (nat_lt 0 (reserved_of o.body)) o.signals.waits list m registered.listed);
-    places = places;
-  }
-
-  pub gone_registered : AreRegistered list2 m3
-  gone_registered = rw is left
-
   pub gone_left : list2 ≡ filter (is_entry_there m3) list
-  gone_left = is ∙ ended_there k (nat_lt 0 (reserved_of o.body)) list m3 (gone (cases_Bool (has_key m3 k))) left
+  gone_left = is ∙ ended_there k (nat_lt 0 (reserved_of o.body)) list m3 (gone (cases_Bool (has_key m3 k))) places
+      (same_listed _ (ending_waits k o (without m k)) m3 still (ended_left k (nat_lt 0 (reserved_of o.body)) o.signals.waits list m listed))
     where
       gone : IsTrue (has_key m3 k) ⊎ (has_key m3 k ≡ false) → has_key m3 k ≡ false
       gone (inl there) = absurd (false≢true (sym (ending_gone m k o (λ n same. has_same (without m k) n same k)) ∙ none_came cascades k there))

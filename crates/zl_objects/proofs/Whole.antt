@@ -1,5 +1,5 @@
 -- The invariant of the objects, after each change.
-use Rattle.zl_objects.proofs.Common.{Body, Bool, Err, HasPeerHere, HavePlaces, HavePlacesWith, IsPeerHere, IsTrue, IsWhole, List, Map, Message, None, Object}
+use Rattle.zl_objects.proofs.Common.{Body, Bool, Err, HasPeerHere, HavePlaces, HavePlacesWith, IsPeerHere, IsTrue, IsWhole, Map, Message, None, Object}
 use Rattle.zl_objects.proofs.Common.{Ok, OnErr, OnOk, Option, Pair, Port, Result, SignalState, Some, Watch, [], above_of, ap, arith, at_port, cases_Bool}
 use Rattle.zl_objects.proofs.Common.{changed_port, count_by, end_to, eq-eqb, false, false≢true, find, get, get-put, get-update, has_key, has_key-update}
 use Rattle.zl_objects.proofs.Common.{held_once_less, held_once_more, if◌then◌else◌, inl, inr, insert_entry, is_at, is_at_port, is_end_body, is_err, is_port_at}
@@ -14,10 +14,10 @@ use Rattle.zl_objects.proofs.Places.{places_made, places_put, places_taken, plac
 use Rattle.zl_objects.proofs.ByKoid.{inserted, entry_inserted, written, written_back}
 use Rattle.zl_rights.proofs.MapEdits.{has_key-behind}
 
-pub none_whole : (m : Map Object) (next room : ℕ) (d : List ℕ) → m ≡ [] → d ≡ [] → IsWhole None m next d room
+pub none_whole : (m : Map Object) (next room : ℕ) → m ≡ [] → IsWhole None m next room
 unfolding get
-none_whole m next room d none empty =
-    rw none record { below = λ k there. cc; peers = λ k o at. absurd (none-some o at); places = λ k. omega arith; enough = omega arith; none = empty }
+none_whole m next room none =
+    rw none record { below = λ k there. cc; peers = λ k o at. absurd (none-some o at); places = λ k. omega arith; enough = omega arith }
 
 -- ---- one of the objects is written
 
@@ -29,14 +29,13 @@ module _ (f : Object → Object) (kinds : (o : Object) → kind_in (f o).body �
   still m k next b = peer_stays m (update m k f) next next b (λ p has. (has.0, λ there. kind_updated m k p ∙ has.1 (sym (has_key-update m k f p) ∙ there)))
 
   -- the places are those that the wait needs
-  pub placed_whole : (x y : Option Watch) (m n : Map Object) (next room k : ℕ) (d : List ℕ) → IsWhole x m next d room → n ≡ update m k f
-      → HavePlacesWith y (update m k f) → IsWhole y n next d room
-  placed_whole x y m n next room k d whole is places = rw is record {
+  pub placed_whole : (x y : Option Watch) (m n : Map Object) (next room k : ℕ) → IsWhole x m next room → n ≡ update m k f
+      → HavePlacesWith y (update m k f) → IsWhole y n next room
+  placed_whole x y m n next room k whole is places = rw is record {
     below = λ j there. whole.below j (sym (has_key-update m k f j) ∙ there);
     peers = λ j o at. by_object j o (get m j) refl (sym (get-update m k f j) ∙ at);
     places = places;
     enough = omega (arith, length-update m k f, whole.enough);
-    none = whole.none;
   }
     where
       by_object : (j : ℕ) (o : Object) (q : Option Object) → get m j ≡ q → (if k == j then option_map f (get m j) else get m j) ≡ Some o
@@ -56,8 +55,8 @@ module _ (f : Object → Object) (kinds : (o : Object) → kind_in (f o).body �
     same_waits : (j : ℕ) (o : Object) → waits_for j (f o) ≡ waits_for j o
     same_waits j o = ap (λ (s : SignalState). count_by (is_at_port j) s.waits) (quiet o)
 
-    pub updated_whole : (m n : Map Object) (next room k : ℕ) (d : List ℕ) → IsWhole None m next d room → n ≡ update m k f → IsWhole None n next d room
-    updated_whole m n next room k d whole is = placed_whole None None m n next room k d whole is (places_updated f same_waits same None m k whole.places)
+    pub updated_whole : (m n : Map Object) (next room k : ℕ) → IsWhole None m next room → n ≡ update m k f → IsWhole None n next room
+    updated_whole m n next room k whole is = placed_whole None None m n next room k whole is (places_updated f same_waits same None m k whole.places)
 
 pub more_same : (o : Object) → (held_once_more o).body ≡ o.body
 more_same o = elim (nat_lt o.handles (2 ^ 62)) as (λ b. (if b then record o { handles = o.handles + 1 } else o).body ≡ o.body) [ true ↦ refl | false ↦ refl ]
@@ -67,22 +66,22 @@ more_quiet o =
     elim (nat_lt o.handles (2 ^ 62)) as (λ b. (if b then record o { handles = o.handles + 1 } else o).signals ≡ o.signals) [ true ↦ refl | false ↦ refl ]
 
 -- one handle more
-pub more_whole : (m n : Map Object) (next room k : ℕ) (d : List ℕ) → IsWhole None m next d room → n ≡ update m k held_once_more → IsWhole None n next d room
+pub more_whole : (m n : Map Object) (next room k : ℕ) → IsWhole None m next room → n ≡ update m k held_once_more → IsWhole None n next room
 more_whole = updated_whole held_once_more (λ o. ap kind_in (more_same o)) (λ o. ap peer_of (more_same o)) more_quiet (λ o. ap reserved_of (more_same o))
 
 -- one handle less
-pub less_whole : (m n : Map Object) (next room k : ℕ) (d : List ℕ) → IsWhole None m next d room → n ≡ update m k held_once_less → IsWhole None n next d room
+pub less_whole : (m n : Map Object) (next room k : ℕ) → IsWhole None m next room → n ≡ update m k held_once_less → IsWhole None n next room
 less_whole = updated_whole held_once_less (λ o. refl) (λ o. refl) (λ o. refl) (λ o. refl)
 
 -- a process may be blocked at it
-pub slept_whole : (m n : Map Object) (next room k : ℕ) (d : List ℕ) → IsWhole None m next d room → n ≡ update m k slept → IsWhole None n next d room
+pub slept_whole : (m n : Map Object) (next room k : ℕ) → IsWhole None m next room → n ≡ update m k slept → IsWhole None n next room
 slept_whole = updated_whole slept (λ o. refl) (λ o. refl) (λ o. refl) (λ o. refl)
 
 -- other signals
-pub changed_whole : (m n : Map Object) (next room k clear set : ℕ) (d : List ℕ) → IsWhole None m next d room → n ≡ update m k (raised_changed clear set)
-    → IsWhole None n next d room
-changed_whole m n next room k clear set d whole is =
-    placed_whole f (λ o. refl) (λ o. refl) None None m n next room k d whole is (places_updated f (λ j o. refl) (λ o. refl) None m k whole.places)
+pub changed_whole : (m n : Map Object) (next room k clear set : ℕ) → IsWhole None m next room → n ≡ update m k (raised_changed clear set)
+    → IsWhole None n next room
+changed_whole m n next room k clear set whole is =
+    placed_whole f (λ o. refl) (λ o. refl) None None m n next room k whole is (places_updated f (λ j o. refl) (λ o. refl) None m k whole.places)
   where
     f : Object → Object
     f = raised_changed clear set
@@ -99,15 +98,15 @@ pub same_above : (g : Port → Port) (b : Body) → above_of (changed_port g b) 
 same_above g (body.Job own) = refl
 same_above g _ = refl
 
-at_port_whole : (g : Port → Port) (x y : Option Watch) (m n : Map Object) (next room k : ℕ) (d : List ℕ) → IsWhole x m next d room → n ≡ update m k (at_port g)
-    → HavePlacesWith y (update m k (at_port g)) → IsWhole y n next d room
+at_port_whole : (g : Port → Port) (x y : Option Watch) (m n : Map Object) (next room k : ℕ) → IsWhole x m next room → n ≡ update m k (at_port g)
+    → HavePlacesWith y (update m k (at_port g)) → IsWhole y n next room
 at_port_whole g = placed_whole (at_port g) (λ o. same_kind g o.body) (λ o. same_peer g o.body)
 
 -- other packets at a port
-pub port_whole : (g : Port → Port) → ((p : Port) → (g p).reserved ≡ p.reserved) → (m n : Map Object) (next room k : ℕ) (d : List ℕ) → IsWhole None m next d room
-    → n ≡ update m k (at_port g) → IsWhole None n next d room
-port_whole g same m n next room k d whole is =
-    at_port_whole g None None m n next room k d whole is (places_updated (at_port g) (λ j o. refl) (λ o. by_body o.body) None m k whole.places)
+pub port_whole : (g : Port → Port) → ((p : Port) → (g p).reserved ≡ p.reserved) → (m n : Map Object) (next room k : ℕ) → IsWhole None m next room
+    → n ≡ update m k (at_port g) → IsWhole None n next room
+port_whole g same m n next room k whole is =
+    at_port_whole g None None m n next room k whole is (places_updated (at_port g) (λ j o. refl) (λ o. by_body o.body) None m k whole.places)
   where
     by_body : (b : Body) → reserved_of (changed_port g b) ≡ reserved_of b
     by_body (body.Port port) = same port
@@ -115,27 +114,27 @@ port_whole g same m n next room k d whole is =
     by_body _ = refl
 
 -- a place is reserved for the wait
-pub made_whole : (x : Watch) (m n : Map Object) (next room : ℕ) (d : List ℕ) → IsTrue (is_port_at m x.port) → IsWhole None m next d room
-    → n ≡ update m x.port (at_port with_place) → IsWhole (Some x) n next d room
-made_whole x m n next room d port whole is = at_port_whole with_place None (Some x) m n next room x.port d whole is (places_made x m port whole.places)
+pub made_whole : (x : Watch) (m n : Map Object) (next room : ℕ) → IsTrue (is_port_at m x.port) → IsWhole None m next room
+    → n ≡ update m x.port (at_port with_place) → IsWhole (Some x) n next room
+made_whole x m n next room port whole is = at_port_whole with_place None (Some x) m n next room x.port whole is (places_made x m port whole.places)
 
 -- the wait is registered
-pub watched_whole : (x : Watch) (m n : Map Object) (next room k : ℕ) (d : List ℕ) → IsTrue (has_key m k) → IsWhole (Some x) m next d room
-    → n ≡ update m k (watched x) → IsWhole None n next d room
-watched_whole x m n next room k d there whole is =
-    placed_whole (watched x) (λ o. refl) (λ o. refl) (Some x) None m n next room k d whole is (places_taken x m k there whole.places)
+pub watched_whole : (x : Watch) (m n : Map Object) (next room k : ℕ) → IsTrue (has_key m k) → IsWhole (Some x) m next room
+    → n ≡ update m k (watched x) → IsWhole None n next room
+watched_whole x m n next room k there whole is =
+    placed_whole (watched x) (λ o. refl) (λ o. refl) (Some x) None m n next room k whole is (places_taken x m k there whole.places)
 
 -- the wait has gone, and its place is left
-pub unwatched_whole : (test : Watch → Bool) (m n : Map Object) (next room k : ℕ) (d : List ℕ) → IsWhole None m next d room → n ≡ update m k (unwatched test)
-    → IsWhole (find test (waits_in (get m k))) n next d room
-unwatched_whole test m n next room k d whole is =
-    placed_whole (unwatched test) (λ o. refl) (λ o. refl) None (find test (waits_in (get m k))) m n next room k d whole is
+pub unwatched_whole : (test : Watch → Bool) (m n : Map Object) (next room k : ℕ) → IsWhole None m next room → n ≡ update m k (unwatched test)
+    → IsWhole (find test (waits_in (get m k))) n next room
+unwatched_whole test m n next room k whole is =
+    placed_whole (unwatched test) (λ o. refl) (λ o. refl) None (find test (waits_in (get m k))) m n next room k whole is
     (places_unwatched test m k whole.places)
 
 -- its place is given back, or holds its packet
-pub used_whole : (g : Port → Port) → ((p : Port) → (g p).reserved ≡ p.reserved - 1) → (x : Watch) (m n : Map Object) (next room : ℕ) (d : List ℕ)
-    → IsWhole (Some x) m next d room → n ≡ update m x.port (at_port g) → IsWhole None n next d room
-used_whole g less x m n next room d whole is = at_port_whole g (Some x) None m n next room x.port d whole is (places_used g less x m whole.places)
+pub used_whole : (g : Port → Port) → ((p : Port) → (g p).reserved ≡ p.reserved - 1) → (x : Watch) (m n : Map Object) (next room : ℕ)
+    → IsWhole (Some x) m next room → n ≡ update m x.port (at_port g) → IsWhole None n next room
+used_whole g less x m n next room whole is = at_port_whole g (Some x) None m n next room x.port whole is (places_used g less x m whole.places)
 
 -- ---- what an object is changes
 
@@ -149,8 +148,8 @@ pub record Stays (b c : Body) : Type 0 where
 pub stays_same : (b : Body) → Stays b b
 stays_same b = record { kind = refl; reserved = refl; peer = refl; above = refl }
 
-pub rebodied_whole : (g : Body → Body) → ((b : Body) → Stays b (g b)) → (m n : Map Object) (next room k : ℕ) (d : List ℕ) → IsWhole None m next d room
-    → n ≡ update m k (λ o. record o { body = g o.body }) → IsWhole None n next d room
+pub rebodied_whole : (g : Body → Body) → ((b : Body) → Stays b (g b)) → (m n : Map Object) (next room k : ℕ) → IsWhole None m next room
+    → n ≡ update m k (λ o. record o { body = g o.body }) → IsWhole None n next room
 rebodied_whole g same =
     updated_whole (λ o. record o { body = g o.body }) (λ o. (same o.body).kind) (λ o. (same o.body).peer) (λ o. refl) (λ o. (same o.body).reserved)
 
@@ -159,7 +158,7 @@ pub stopped_same : (b : Body) → Stays b (stopped_body b)
 stopped_same (body.Process job l) = record { kind = refl; reserved = refl; peer = refl; above = refl }
 stopped_same b = stays_same b
 
-pub stopped_whole : (m n : Map Object) (next room k : ℕ) (d : List ℕ) → IsWhole None m next d room → n ≡ update m k stopped → IsWhole None n next d room
+pub stopped_whole : (m n : Map Object) (next room k : ℕ) → IsWhole None m next room → n ≡ update m k stopped → IsWhole None n next room
 stopped_whole = rebodied_whole stopped_body stopped_same
 
 -- one message more
@@ -167,16 +166,16 @@ pub sent_same : (message : Message) (b : Body) → Stays b (sent_body message b)
 sent_same message (body.ChannelEnd peer queue) = record { kind = refl; reserved = refl; peer = refl; above = refl }
 sent_same message b = stays_same b
 
-pub sent_whole : (m n : Map Object) (next room k : ℕ) (d : List ℕ) (message : Message) → IsWhole None m next d room → n ≡ update m k (sent message)
-    → IsWhole None n next d room
-sent_whole m n next room k d message = rebodied_whole (sent_body message) (sent_same message) m n next room k d
+pub sent_whole : (m n : Map Object) (next room k : ℕ) (message : Message) → IsWhole None m next room → n ≡ update m k (sent message)
+    → IsWhole None n next room
+sent_whole m n next room k message = rebodied_whole (sent_body message) (sent_same message) m n next room k
 
 -- one message less
 pub received_same : (b : Body) → Stays b (received_body b)
 received_same (body.ChannelEnd peer queue) = record { kind = refl; reserved = refl; peer = refl; above = refl }
 received_same b = stays_same b
 
-pub received_whole : (m n : Map Object) (next room k : ℕ) (d : List ℕ) → IsWhole None m next d room → n ≡ update m k received → IsWhole None n next d room
+pub received_whole : (m n : Map Object) (next room k : ℕ) → IsWhole None m next room → n ≡ update m k received → IsWhole None n next room
 received_whole = rebodied_whole received_body received_same
 
 -- ---- one object more
@@ -192,15 +191,14 @@ later_peer m next o b below = peer_stays m (put m next o) next (next + 1) b late
         apart = grind (arith, nat_tests, has.0)
 
 -- the new object has the next koid, and is no end; no place is reserved at it
-pub inserted_whole : (m n : Map Object) (next room room2 : ℕ) (d d2 : List ℕ) (o : Object) → IsWhole None m next d room → is_end_body o.body ≡ false
-    → reserved_of o.body ≡ 0 → o.signals.waits ≡ [] → d2 ≡ d → length m + 1 ≤ room2 → n ≡ insert_entry nat_cmp m next o → IsWhole None n (next + 1) d2 room2
-inserted_whole m n next room room2 d d2 o whole alone empty fresh same more into = rw (into, inserted m next o, same) record {
+pub inserted_whole : (m n : Map Object) (next room room2 : ℕ) (o : Object) → IsWhole None m next room → is_end_body o.body ≡ false
+    → reserved_of o.body ≡ 0 → o.signals.waits ≡ [] → length m + 1 ≤ room2 → n ≡ insert_entry nat_cmp m next o → IsWhole None n (next + 1) room2
+inserted_whole m n next room room2 o whole alone empty fresh more into = rw (into, inserted m next o) record {
   below = λ k there. elim (put_key m next o k there) as (λ _. k < next + 1) [ inl here ↦ omega (arith, here) | inr old ↦ omega (arith, whole.below k old) ];
   peers = λ k q at. by_key k q (cases_Bool (next == k)) (sym (get-put m next o k) ∙ at);
   places = places_put m next o whole.below fresh empty whole.places;
   enough =
       omega (arith, more, ap (λ (x : Map Object). length x) (sym (inserted m next o) ∙ entry_inserted m next o whole.below), length-append m ((next, o) ∷ []));
-  none = whole.none;
 }
   where
     no_end : (b : Body) → is_end_body b ≡ false → HasPeerHere (put m next o) (next + 1) b
@@ -246,16 +244,15 @@ pair_created m n n2 next o o2 below into into2 =
     into2 ∙ (entry_inserted n (next + 1) o2 (below_first m n next o below into)
     ∙ ap (λ (x : Map Object). x ++ (next + 1, o2) ∷ []) (into ∙ entry_inserted m next o below))
 
-pub pair_whole : (pair : Pair) (m n n2 : Map Object) (next room room2 handles : ℕ) (d d2 : List ℕ) (o o2 : Object) → IsWhole None m next d room
-    → o ≡ end_of pair (next + 1) handles → o2 ≡ end_of pair next handles → d2 ≡ d → length m + 2 ≤ room2
-    → n ≡ insert_entry nat_cmp m next o → n2 ≡ insert_entry nat_cmp n (next + 1) o2 → IsWhole None n2 (next + 1 + 1) d2 room2
-pair_whole pair m n n2 next room room2 handles d d2 o o2 whole first second same more into into2 = rw same record {
+pub pair_whole : (pair : Pair) (m n n2 : Map Object) (next room room2 handles : ℕ) (o o2 : Object) → IsWhole None m next room
+    → o ≡ end_of pair (next + 1) handles → o2 ≡ end_of pair next handles → length m + 2 ≤ room2
+    → n ≡ insert_entry nat_cmp m next o → n2 ≡ insert_entry nat_cmp n (next + 1) o2 → IsWhole None n2 (next + 1 + 1) room2
+pair_whole pair m n n2 next room room2 handles o o2 whole first second more into into2 = record {
   below = λ k there. below_second k (rw is_put2 at there);
   peers = λ k q at. by_key k q (cases_Bool (next + 1 == k)) (cases_Bool (next == k)) (sym (get_second k) ∙ at);
   places = rw is_put2 (places_put n (next + 1) o2 below (rw second refl) (rw second (end_reserved pair next)) first_places);
   enough = rw (pair_created m n n2 next o o2 whole.below into into2)
       (omega (arith, more, length-append (m ++ (next, o) ∷ []) ((next + 1, o2) ∷ []), length-append m ((next, o) ∷ [])));
-  none = whole.none;
 }
   where
     is_put : n ≡ put m next o
@@ -334,43 +331,43 @@ if_err (Ok x) P h out = absurd (false≢true out)
 if_err (Err e) P h out = h
 
 -- other room
-pub roomy_whole : (m n : Map Object) (next room room2 : ℕ) (d d2 : List ℕ) → IsWhole None m next d room → n ≡ m → d2 ≡ d → room ≤ room2
-    → IsWhole None n next d2 room2
-roomy_whole m n next room room2 d d2 whole is same more =
-    rw (is, same) record { below = whole.below; peers = whole.peers; places = whole.places; enough = omega (arith, whole.enough, more); none = whole.none }
+pub roomy_whole : (m n : Map Object) (next room room2 : ℕ) → IsWhole None m next room → n ≡ m → room ≤ room2
+    → IsWhole None n next room2
+roomy_whole m n next room room2 whole is more =
+    rw is record { below = whole.below; peers = whole.peers; places = whole.places; enough = omega (arith, whole.enough, more) }
 
 -- one message more, or the end as it was
-pub sent_or_same_whole : {A B : Type 0} (m n : Map Object) (next room k : ℕ) (d : List ℕ) (message : Message) (v w : Object) (r : Result A B)
-    → IsWhole None m next d room → OnOk r (w ≡ sent message v) → OnErr r (w ≡ v)
-    → Some v ≡ lookup (is_at (nat_cmp k)) m → n ≡ set_value (is_at (nat_cmp k)) m w → IsWhole None n next d room
-sent_or_same_whole m n next room k d message v w (Ok x) whole is other there set =
-    sent_whole m n next room k d message whole (written m n k (sent message) v w there is set)
-sent_or_same_whole m n next room k d message v w (Err e) whole other is there set =
-    roomy_whole m n next room room d d whole (written_back m n k v w there is set) refl (omega arith)
+pub sent_or_same_whole : {A B : Type 0} (m n : Map Object) (next room k : ℕ) (message : Message) (v w : Object) (r : Result A B)
+    → IsWhole None m next room → OnOk r (w ≡ sent message v) → OnErr r (w ≡ v)
+    → Some v ≡ lookup (is_at (nat_cmp k)) m → n ≡ set_value (is_at (nat_cmp k)) m w → IsWhole None n next room
+sent_or_same_whole m n next room k message v w (Ok x) whole is other there set =
+    sent_whole m n next room k message whole (written m n k (sent message) v w there is set)
+sent_or_same_whole m n next room k message v w (Err e) whole other is there set =
+    roomy_whole m n next room room whole (written_back m n k v w there is set) (omega arith)
 
 -- other packets at a port, or the port as it was
 pub port_or_same_whole : {A B : Type 0} (g : Port → Port) → ((p : Port) → (g p).reserved ≡ p.reserved)
-    → (m n : Map Object) (next room k : ℕ) (d : List ℕ) (v w : Object) (r : Result A B) → IsWhole None m next d room → OnOk r (w ≡ at_port g v)
-    → OnErr r (w ≡ v) → Some v ≡ lookup (is_at (nat_cmp k)) m → n ≡ set_value (is_at (nat_cmp k)) m w → IsWhole None n next d room
-port_or_same_whole g same m n next room k d v w (Ok y) whole is other there set =
-    port_whole g same m n next room k d whole (written m n k (at_port g) v w there is set)
-port_or_same_whole g same m n next room k d v w (Err e) whole other is there set =
-    roomy_whole m n next room room d d whole (written_back m n k v w there is set) refl (omega arith)
+    → (m n : Map Object) (next room k : ℕ) (v w : Object) (r : Result A B) → IsWhole None m next room → OnOk r (w ≡ at_port g v)
+    → OnErr r (w ≡ v) → Some v ≡ lookup (is_at (nat_cmp k)) m → n ≡ set_value (is_at (nat_cmp k)) m w → IsWhole None n next room
+port_or_same_whole g same m n next room k v w (Ok y) whole is other there set =
+    port_whole g same m n next room k whole (written m n k (at_port g) v w there is set)
+port_or_same_whole g same m n next room k v w (Err e) whole other is there set =
+    roomy_whole m n next room room whole (written_back m n k v w there is set) (omega arith)
 
 -- ---- a wait that is taken out
 
-module _ (test : Watch → Bool) (m n : Map Object) (next room k : ℕ) (d : List ℕ) (whole : IsWhole None m next d room)
+module _ (test : Watch → Bool) (m n : Map Object) (next room k : ℕ) (whole : IsWhole None m next room)
     (out : n ≡ update m k (unwatched test)) where
   -- none was found
-  pub none_out_whole : find test (waits_in (get m k)) ≡ None → IsWhole None n next d room
-  none_out_whole none = subst (λ (q : Option Watch). IsWhole q n next d room) none (unwatched_whole test m n next room k d whole out)
+  pub none_out_whole : find test (waits_in (get m k)) ≡ None → IsWhole None n next room
+  none_out_whole none = subst (λ (q : Option Watch). IsWhole q n next room) none (unwatched_whole test m n next room k whole out)
 
   module _ (x : Watch) (found : find test (waits_in (get m k)) ≡ Some x) where
     -- its place is left
-    pub one_out_whole : IsWhole (Some x) n next d room
-    one_out_whole = subst (λ (q : Option Watch). IsWhole q n next d room) found (unwatched_whole test m n next room k d whole out)
+    pub one_out_whole : IsWhole (Some x) n next room
+    one_out_whole = subst (λ (q : Option Watch). IsWhole q n next room) found (unwatched_whole test m n next room k whole out)
 
     -- its place was given back, or holds its packet
     pub gone_whole : (g : Port → Port) → ((p : Port) → (g p).reserved ≡ p.reserved - 1) → (n2 : Map Object) → n2 ≡ update n x.port (at_port g)
-        → IsWhole None n2 next d room
-    gone_whole g less n2 is = used_whole g less x n n2 next room d one_out_whole is
+        → IsWhole None n2 next room
+    gone_whole g less n2 is = used_whole g less x n n2 next room one_out_whole is

@@ -9,13 +9,9 @@ use Rattle.zl_signals.specs.Waits.{watch_holds}
 use Rattle.zl_objects.specs.declared.awaited.Awaited.{Awaited}
 use Rattle.zl_objects.specs.declared.awaited.Awaited.TheVariants as awaits
 use Rattle.zl_objects.specs.declared.awaited.Sleeper.{Sleeper}
-use Rattle.zl_objects.specs.declared.children.Children.{Children}
 use Rattle.zl_objects.specs.declared.marks.Marks.{Marks}
 use Rattle.zl_objects.specs.declared.object.Object.{Object}
-use Rattle.zl_objects.specs.declared.wait.Listed.{Listed}
 use Rattle.zl_objects.specs.Awaited.{koid_of}
-use Rattle.zl_objects.specs.Dying.{IsKept}
-use Rattle.zl_objects.specs.Index.{IsIndexed}
 use Rattle.zl_objects.specs.Objects.{Objects}
 use Rattle.zl_objects.specs.Ports.{packets_found}
 use Rattle.zl_objects.specs.Signals.{signals_at}
@@ -88,10 +84,3 @@ KeepsCalm marked m marked2 m2 = (next_koid : ℕ) (sleepers : List Sleeper) → 
 pub record StayStill (m m2 : Map Object) : Type 0 where
   pub calm : (marked : ℕ → Bool) → KeepsCalm marked m marked m2
   pub waits : HaveSameWaits m m2
-
--- the invariant of the objects, of all waits and of who may be blocked
-pub record IsSteady (marks : Marks) (children : Children) (m : Map Object) (next_koid : ℕ) (dying : List ℕ) (room : ℕ) (waits : List Listed)
-    (sleepers : List Sleeper) : Type 0 where
-  pub kept : IsKept None m next_koid dying room waits
-  pub calm : IsCalm (is_marked marks) m next_koid sleepers
-  pub indexed : IsIndexed children m

@@ -1,5 +1,5 @@
 -- How what goes is noted, without memory. No public clause cites this module.
-use Rattle.std.specs.Prelude.{ℕ, ◌≡◌, ◌+◌, ◌<◌, ◌≤◌, Bool, false, ◌==◌, nat_lt, not, IsTrue, List, [], ◌++◌, length, Option, Some, None, IfSome, if◌then◌else◌}
+use Rattle.std.specs.Prelude.{ℕ, ◌≡◌, ◌+◌, ◌<◌, ◌≤◌, Bool, false, ◌==◌, nat_lt, not, IsTrue, List, ◌++◌, length, Option, Some, None, IfSome, if◌then◌else◌}
 use Rattle.std.specs.List.{count_by, filter, list_any}
 use Rattle.zl_rights.specs.declared.kind.Kind.{Kind}
 use Rattle.zl_rights.specs.Map.{Map, get, has_key, without}
@@ -64,15 +64,14 @@ abbrev pub HasPeerHere : Map Object → ℕ → Body → Type 0
 HasPeerHere m next_koid b = IfSome (peer_of b) (IsPeerHere (kind_in b) m next_koid)
 
 -- all koids lie below the next one, peers are ends, each wait has its place at its port and there is one more for this
--- one, there is room for each object, and none is noted
-pub record IsWhole (more : Option Watch) (m : Map Object) (next_koid : ℕ) (dying : List ℕ) (room : ℕ) : Type 0 where
+-- one, and there is room for each object
+pub record IsWhole (more : Option Watch) (m : Map Object) (next_koid room : ℕ) : Type 0 where
   pub below : (k : ℕ) → IsTrue (has_key m k) → k < next_koid
   pub peers : (k : ℕ) (o : Object) → get m k ≡ Some o → HasPeerHere m next_koid o.body
   pub places : HavePlacesWith more m
   pub enough : length m ≤ room
-  pub none : dying ≡ []
 
 -- and the list of all waits has those of each object, in their order
-pub record IsKept (more : Option Watch) (m : Map Object) (next_koid : ℕ) (dying : List ℕ) (room : ℕ) (waits : List Listed) : Type 0 where
-  pub whole : IsWhole more m next_koid dying room
+pub record IsKept (more : Option Watch) (m : Map Object) (next_koid room : ℕ) (waits : List Listed) : Type 0 where
+  pub whole : IsWhole more m next_koid room
   pub listed : AreListed waits m

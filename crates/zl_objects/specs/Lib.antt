@@ -7,6 +7,7 @@ pub mod Seen
 pub mod Dying
 pub mod Signals
 pub mod Ports
+pub mod Store
 pub mod Waits
 pub mod Listed
 pub mod Awaited

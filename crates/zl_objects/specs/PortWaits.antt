@@ -3,14 +3,11 @@
 use Rattle.std.specs.Prelude.{ℕ, ◌≡◌, ◌<◌, ◌≤◌, Bool, false, not, ◌&&◌, ◌==◌, IsTrue, List, map, Option, Some, None, if◌then◌else◌}
 use Rattle.std.specs.BTreeSet.{contains}
 use Rattle.std.specs.List.{filter, list_any}
-use Rattle.zl_rights.specs.Map.{Map}
 use Rattle.zl_signals.specs.declared.watch.Watch.{Watch}
-use Rattle.zl_objects.specs.declared.object.Object.{Object}
 use Rattle.zl_objects.specs.declared.port_waits.PortWaits.{PortWaits}
 use Rattle.zl_objects.specs.declared.wait.Listed.{Listed}
 use Rattle.zl_objects.specs.Index.{pair_cmp}
-use Rattle.zl_objects.specs.Listed.{AreListed, listed_at}
-use Rattle.zl_objects.specs.Waits.{HavePlaces}
+use Rattle.zl_objects.specs.Listed.{listed_at}
 
 -- ---- the index
 
@@ -65,10 +62,3 @@ without_given port list = filter (λ x. not (is_entry_to port x)) list
 -- the list without the waits at the object k, and if places are reserved there, without those that give their packets to it
 abbrev pub without_ended : ℕ → Bool → List Listed → List Listed
 without_ended k reserved list = if reserved then without_given k (without_own k list) else without_own k list
-
--- ---- beside the objects
-
--- the list has the waits of each object as they stand there, and each has its place at its port
-pub record AreRegistered (list : List Listed) (m : Map Object) : Type 0 where
-  pub listed : AreListed list m
-  pub places : HavePlaces m

@@ -48,8 +48,9 @@ impl Objects {
     {
         let none = Vec::new(*self.told.allocator());
         let mut koids = std::mem::replace(&mut self.told, none);
+        let store = &self.store;
         // 0 is no koid.
-        let whole = task != 0 && list_task(&self.by_koid, &self.children, &mut koids, task);
+        let whole = task != 0 && list_task(&store.by_koid, &store.children, &mut koids, task);
         TaskList { koids, whole }
     }
 

@@ -48,7 +48,7 @@ impl Objects {
         Some(Due {
             place,
             koid,
-            active: signals_at(&self.by_koid, &self.children, koid),
+            active: signals_at(&self.store.by_koid, &self.store.children, koid),
         })
     }
 
@@ -62,10 +62,15 @@ impl Objects {
             (take due.0 self.now.waits) ≡ false) }
     {
         // At all other objects no wait holds.
-        let Some(koids) = self.marks.koids() else {
-            return first_holding(&self.waits, &self.by_koid, &self.children, from);
+        let Some(koids) = self.store.marks.koids() else {
+            return first_holding(
+                &self.store.waits,
+                &self.store.by_koid,
+                &self.store.children,
+                from,
+            );
         };
-        let (_, koid) = earliest_among(&self.by_koid, &self.children, koids)?;
+        let (_, koid) = earliest_among(&self.store.by_koid, &self.store.children, koids)?;
         Some((from, koid))
     }
 }

@@ -149,7 +149,7 @@ impl Objects {
     pub fn lives(&self, pid: Koid) -> bool
         ensures { result ≡ lives_in (get self.now.objects pid) }
     {
-        match self.by_koid.get(&pid) {
+        match self.store.by_koid.get(&pid) {
             Some(object) => object.body.lives(),
             None => false,
         }
@@ -161,7 +161,7 @@ impl Objects {
     pub fn job_of(&self, pid: Koid) -> Option<Koid>
         ensures { result ≡ job_in (get self.now.objects pid) }
     {
-        self.by_koid.get(&pid)?.body.job()
+        self.store.by_koid.get(&pid)?.body.job()
     }
 
     /// Whether the job was killed. What is no job counts as killed.
@@ -170,7 +170,7 @@ impl Objects {
     pub fn is_dead(&self, job: Koid) -> bool
         ensures { result ≡ is_dead_here (job_at self.now.objects job) }
     {
-        match self.by_koid.get(&job) {
+        match self.store.by_koid.get(&job) {
             Some(object) => object.body.is_dead(),
             None => true,
         }
@@ -182,7 +182,7 @@ impl Objects {
     pub fn depth(&self, job: Koid) -> u32
         ensures { result ≡ depth_of (job_at self.now.objects job) }
     {
-        match self.by_koid.get(&job) {
+        match self.store.by_koid.get(&job) {
             Some(object) => object.body.depth(),
             None => 0,
         }
@@ -195,7 +195,7 @@ impl Objects {
     pub fn action(&self, job: Koid, condition: Condition) -> Action
         ensures { result ≡ action_here (job_at self.now.objects job) condition }
     {
-        match self.by_koid.get(&job) {
+        match self.store.by_koid.get(&job) {
             Some(object) => object.body.action(condition),
             None => Action::Allow,
         }
@@ -207,7 +207,7 @@ impl Objects {
     pub fn has_policy(&self, job: Koid) -> bool
         ensures { result ≡ has_actions (job_at self.now.objects job) }
     {
-        match self.by_koid.get(&job) {
+        match self.store.by_koid.get(&job) {
             Some(object) => object.body.has_policy(),
             None => false,
         }
@@ -220,8 +220,8 @@ impl Objects {
         ensures { result ≡ children self.now.objects job }
     {
         (
-            has_job_below(&self.by_koid, &self.children, job),
-            has_process_below(&self.by_koid, &self.children, job),
+            has_job_below(&self.store.by_koid, &self.store.children, job),
+            has_process_below(&self.store.by_koid, &self.store.children, job),
         )
     }
 
@@ -233,7 +233,7 @@ impl Objects {
     pub fn job_below(&self, job: Koid) -> Result<Job, JobFault>
         ensures { result ≡ new_in job (job_at self.now.objects job) }
     {
-        match self.by_koid.get(&job) {
+        match self.store.by_koid.get(&job) {
             Some(object) => object.body.job_below(job),
             None => Err(JobFault::BadState),
         }
@@ -256,7 +256,7 @@ impl Objects {
         ensures ok { OnOk result (self.new ≡ setting_policy self.old job condition action) }
         ensures unchanged { OnErr result (self.new ≡ self.old) }
     {
-        let Some(object) = self.by_koid.get_mut(&job) else {
+        let Some(object) = self.store.by_koid.get_mut(&job) else {
             return Ok(());
         };
         object.set_policy(condition, action, mode)
@@ -269,7 +269,7 @@ impl Objects {
     pub fn is_within(&self, job: Koid, koid: Koid) -> bool
         ensures { result ≡ is_within_here self.now.objects job koid }
     {
-        is_within(&self.by_koid, job, koid)
+        is_within(&self.store.by_koid, job, koid)
     }
 
     /// The job or process at place `n`, from 0, of all that stand below the job, each once, in the
@@ -280,9 +280,10 @@ impl Objects {
     pub fn below(&self, job: Koid, n: usize) -> Option<Koid>
         ensures { result ≡ slice_get (descendants self.now.objects job) n }
     {
-        self.by_koid
+        self.store
+            .by_koid
             .keys()
-            .filter(|koid| is_below(&self.by_koid, job, **koid))
+            .filter(|koid| is_below(&self.store.by_koid, job, **koid))
             .nth(n)
             .copied()
     }

@@ -12,6 +12,7 @@ ghost use Rattle.zl_objects.specs.Calm.{is_marked, KeepsCalm};
 ghost use Rattle.zl_objects.specs.Jobs.{all_killed, is_below, is_below_by, is_within_here, killed, killed_if, parent_at};
 ghost use Rattle.zl_objects.specs.Walks.{IsNext};
 
+use crate::below::TaskList;
 use crate::marks::Marks;
 use crate::object::{Body, Object};
 use crate::releasing::mark_watched;
@@ -121,25 +122,24 @@ fn kill_each(by_koid: &mut BTreeMap<Koid, Object>, marks: &mut Marks, task: Koid
     }
 }
 
-/// The job or the process is killed, and all that stands below it: it is among these, if they were
-/// listed. All koids lie below the end.
+/// The job or the process is killed, and all that stands below it: it is listed, if the list is
+/// whole. All koids lie below the end.
 pub fn kill_task(
     by_koid: &mut BTreeMap<Koid, Object>,
     marks: &mut Marks,
     task: Koid,
     end: Koid,
-    koids: &[Koid],
-    listed: bool,
+    list: &TaskList,
 )
     requires in_order { IsTrue (is_sorted nat_cmp by_koid.old.entries) }
     requires below { (k : ℕ) → IsTrue (has_key by_koid.old.entries k) → k < end }
-    requires listed { listed ≡ true → HasTask by_koid.old.entries task koids.now }
+    requires listed { list.now.whole ≡ true → HasTask by_koid.old.entries task list.now.koids.items }
     ensures killed { by_koid.new.entries ≡ all_killed by_koid.old.entries task }
     ensures calm { KeepsCalm (is_marked marks.old) by_koid.old.entries
         (is_marked marks.new) by_koid.new.entries }
 {
-    if listed {
-        kill_each(by_koid, marks, task, koids);
+    if list.whole {
+        kill_each(by_koid, marks, task, list.koids.as_slice());
         return;
     }
     kill_all(by_koid, marks, task, end);

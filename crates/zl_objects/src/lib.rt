@@ -30,6 +30,7 @@ mod quiet;
 mod releasing;
 mod signals;
 mod sleepers;
+mod store;
 mod wait;
 mod waits;
 

@@ -114,7 +114,7 @@ impl Objects {
     pub fn may_register(&self) -> bool
         ensures { result ≡ may_register_here self.now }
     {
-        self.waits.made < Objects::MOST
+        self.store.waits.made < Objects::MOST
     }
 
     /// Whether a wait is registered. Of each the object and the port are there.
@@ -124,7 +124,7 @@ impl Objects {
         ensures any { result ≡ not (is_empty self.now.waits) }
         ensures there { All (λ x. IsTrue (is_there self.now.objects x)) self.now.waits }
     {
-        !self.waits.entries.is_empty()
+        !self.store.waits.entries.is_empty()
     }
 
     /// The wait at place `n`, from 0, of all registered waits, the earliest first.
@@ -134,7 +134,7 @@ impl Objects {
         ensures wait { option_map wait_value result ≡ slice_get self.now.waits n }
         ensures next { OnSome result (n + 1 < 2 ^ 64) }
     {
-        Some(self.waits.get(n)?.wait)
+        Some(self.store.waits.get(n)?.wait)
     }
 }
 

@@ -16,7 +16,7 @@ use crate::children::{bury, bury_each};
 use crate::killing::kill_task;
 use crate::object::Object;
 use crate::objects::Objects;
-use crate::releasing::{mark_watched, remove_unkept, sweep_task};
+use crate::releasing::mark_watched;
 use std::collections::BTreeMap;
 use zl_rights::Koid;
 
@@ -31,24 +31,10 @@ impl Objects {
         ensures places { HavePlaces self.new.objects }
         ensures listed { LeavesListed self.old self.new }
     {
-        if let Some(job) = job_of(&self.by_koid, pid) {
+        if let Some(job) = job_of(&self.store.by_koid, pid) {
             self.stop(pid);
-            remove_unkept(
-                &mut self.by_koid,
-                &mut self.children,
-                &mut self.waits,
-                &mut self.dying,
-                &mut self.marks,
-                pid,
-            );
-            remove_unkept(
-                &mut self.by_koid,
-                &mut self.children,
-                &mut self.waits,
-                &mut self.dying,
-                &mut self.marks,
-                job,
-            );
+            self.store.remove_unkept(pid);
+            self.store.remove_unkept(job);
         }
     }
 
@@ -65,7 +51,8 @@ impl Objects {
     {
         let none = Vec::new(*self.below.allocator());
         let mut koids = std::mem::replace(&mut self.below, none);
-        let whole = list_task(&self.by_koid, &self.children, &mut koids, task);
+        let store = &self.store;
+        let whole = list_task(&store.by_koid, &store.children, &mut koids, task);
         koids.sort_unstable();
         TaskList { koids, whole }
     }
@@ -99,26 +86,17 @@ impl Objects {
         ensures places { HavePlaces self.new.objects }
         ensures listed { LeavesListed self.old self.new }
     {
+        let store = &mut self.store;
         kill_task(
-            &mut self.by_koid,
-            &mut self.marks,
+            &mut store.by_koid,
+            &mut store.marks,
             task,
-            self.next_koid,
-            list.koids.as_slice(),
-            list.whole,
+            store.next_koid,
+            list,
         );
         // What a list that isn't whole lacks stays among the living until it goes. That costs time.
-        bury_each(&self.by_koid, &mut self.children, list.koids.as_slice());
-        sweep_task(
-            &mut self.by_koid,
-            &mut self.children,
-            &mut self.waits,
-            &mut self.dying,
-            &mut self.marks,
-            self.next_koid,
-            list.koids.as_slice(),
-            list.whole,
-        );
+        bury_each(&store.by_koid, &mut store.children, list.koids.as_slice());
+        store.sweep_task(list);
     }
 
     /// The process is started, if it was made and not started yet.
@@ -127,7 +105,7 @@ impl Objects {
     pub fn start(&mut self, pid: Koid)
         ensures { self.new ≡ starting self.old pid }
     {
-        let Some(object) = self.by_koid.get_mut(&pid) else {
+        let Some(object) = self.store.by_koid.get_mut(&pid) else {
             return;
         };
         object.start();
@@ -137,14 +115,15 @@ impl Objects {
     fn stop(&mut self, pid: Koid)
         ensures { self.new ≡ stopping self.old pid }
     {
-        let Some(object) = self.by_koid.get_mut(&pid) else {
+        let store = &mut self.store;
+        let Some(object) = store.by_koid.get_mut(&pid) else {
             return;
         };
         let keeper = object.body.keeper();
         object.stop();
-        bury(&self.by_koid, &mut self.children, pid);
-        mark_watched(&self.by_koid, &mut self.marks, Some(pid));
-        mark_watched(&self.by_koid, &mut self.marks, keeper);
+        bury(&store.by_koid, &mut store.children, pid);
+        mark_watched(&store.by_koid, &mut store.marks, Some(pid));
+        mark_watched(&store.by_koid, &mut store.marks, keeper);
     }
 }
 

@@ -13,8 +13,9 @@ use crate::killing::parent_at;
 use crate::listing::WaitList;
 use crate::marks::Marks;
 use crate::object::{Body, Object, Pair};
-use crate::releasing::{let_go, mark_watched, remove_dying, remove_unkept};
+use crate::releasing::{let_go, mark_watched};
 use crate::sleepers::Sleepers;
+use crate::store::Store;
 use std::alloc::{AllocError, Global};
 use std::collections::BTreeMap;
 use std::marker::Model;
@@ -28,45 +29,30 @@ use zl_signals::SignalState;
 /// Source: the pages "Kernel objects" and "Handles" of the Fuchsia documentation.
 #[derive(Drop)]
 pub struct Objects {
-    pub(crate) by_koid: BTreeMap<Koid, Object>,
-    // The jobs and processes of each job.
-    pub(crate) children: Children,
-    pub(crate) next_koid: Koid,
-    // The objects that are to be looked at, as no handle names them. There is room for each object,
-    // so that none takes memory to go.
-    pub(crate) dying: Vec<Koid>,
+    pub(crate) store: Store,
     // What a kill looks at, while it lasts. There is room for each job and process, and one more.
     pub(crate) below: Vec<Koid>,
-    // Each wait stands at its object too.
-    pub(crate) waits: WaitList,
-    // Who may be blocked.
-    pub(crate) sleepers: Sleepers,
-    // At all other objects nothing is due.
-    pub(crate) marks: Marks,
     // Whom a kill may have killed, as it is told. There is room for each job and process, and one more.
     pub(crate) told: Vec<Koid>,
 }
 
 impl Model for Objects {
-    ghost use Rattle.std.specs.Prelude.{map, vec_capacity};
+    ghost use Rattle.std.specs.Prelude.{◌≡◌, [], map};
     ghost use Rattle.zl_objects.specs.Objects.{Objects as ObjectsValue};
-    ghost use Rattle.zl_objects.specs.Calm.{IsSteady};
     ghost use Rattle.zl_objects.specs.Listed.{listed_value};
 
     ghost Value = { ObjectsValue };
 
     ghost view = { λ o. record {
-      objects = o.by_koid.entries;
-      next_koid = o.next_koid;
-      waits = map listed_value o.waits.entries.items;
-      waits_made = o.waits.made;
-      sleepers = o.sleepers.list.items;
-      crowded = o.sleepers.crowded;
+      objects = o.store.by_koid.entries;
+      next_koid = o.store.next_koid;
+      waits = map listed_value o.store.waits.entries.items;
+      waits_made = o.store.waits.made;
+      sleepers = o.store.sleepers.list.items;
+      crowded = o.store.sleepers.crowded;
     } };
 
-    ghost invariant = { λ o.
-        IsSteady o.marks o.children o.by_koid.entries o.next_koid o.dying.items (vec_capacity o.dying)
-        o.waits.entries.items o.sleepers.list.items };
+    ghost invariant = { λ o. o.store.dying.items ≡ [] };
 }
 
 #[tactic(auto, using(crate::proofs::ByKoid::by_koid, crate::proofs::Kept::kept))]
@@ -82,14 +68,16 @@ impl Objects {
         ensures { IfOk result (λ objects. objects ≡ root_alone) }
     {
         let mut objects = Objects {
-            by_koid: BTreeMap::new(alloc),
-            children: Children::new(alloc),
-            next_koid: Objects::ROOT_JOB,
-            dying: Vec::new(alloc),
+            store: Store {
+                by_koid: BTreeMap::new(alloc),
+                next_koid: Objects::ROOT_JOB,
+                children: Children::new(alloc),
+                dying: Vec::new(alloc),
+                waits: WaitList::new(alloc),
+                sleepers: Sleepers::new(alloc)?,
+                marks: Marks::new(alloc)?,
+            },
             below: Vec::new(alloc),
-            waits: WaitList::new(alloc),
-            sleepers: Sleepers::new(alloc)?,
-            marks: Marks::new(alloc)?,
             told: Vec::new(alloc),
         };
         objects.create(Body::Job(Job::root()), 0)?;
@@ -100,7 +88,7 @@ impl Objects {
     pub fn has_koids(&self, count: u32) -> bool
         ensures { result ≡ has_koids_here self.now.next_koid count }
     {
-        self.next_koid <= Objects::MOST - u64::from(count)
+        self.store.next_koid <= Objects::MOST - u64::from(count)
     }
 
     /// The least koid that was not given yet, if one is left.
@@ -108,7 +96,7 @@ impl Objects {
         ensures { result ≡ koid_left self.now.next_koid }
     {
         if self.has_koids(1) {
-            Some(self.next_koid)
+            Some(self.store.next_koid)
         } else {
             None
         }
@@ -118,7 +106,7 @@ impl Objects {
     pub fn end_of_koids(&self) -> Koid
         ensures { result ≡ self.now.next_koid }
     {
-        self.next_koid
+        self.store.next_koid
     }
 
     /// Makes an object that so many handles name, and gives its koid. A koid has to be left, an end
@@ -134,25 +122,27 @@ impl Objects {
             (λ koid. get self.new.objects koid ≡ Some (new_object body handles)) }
         ensures unchanged { OnErr result (self.new ≡ self.old) }
     {
-        let count = self.by_koid.len() + 1;
-        make_room(&mut self.dying, &mut self.below, count)?;
+        let store = &mut self.store;
+        let count = store.by_koid.len() + 1;
+        make_room(&mut store.dying, &mut self.below, count)?;
         make_room_for_list(&mut self.told, count)?;
-        self.sleepers
+        store
+            .sleepers
             .make_room_if(matches!(body, Body::Process { .. }), count)?;
-        let koid = self.next_koid;
+        let koid = store.next_koid;
         let parent = body.parent();
-        self.children.add(&body, koid)?;
+        store.children.add(&body, koid)?;
         let object = Object {
             body,
-            signals: SignalState::new(self.alloc()),
+            signals: SignalState::new(*store.dying.allocator()),
             handles,
             asleep: false,
         };
-        if self.by_koid.insert(koid, object).is_err() {
-            self.children.remove(parent, koid);
+        if store.by_koid.insert(koid, object).is_err() {
+            store.children.remove(parent, koid);
             return Err(AllocError);
         }
-        self.next_koid = koid + 1;
+        store.next_koid = koid + 1;
         Ok(koid)
     }
 
@@ -168,21 +158,23 @@ impl Objects {
         ensures created { OnOk result (self.new ≡ with_pair self.old pair handles) }
         ensures unchanged { OnErr result (self.new ≡ self.old) }
     {
-        let first = self.next_koid;
+        let store = &mut self.store;
+        let first = store.next_koid;
         let second = first + 1;
-        let alloc = *self.dying.allocator();
-        self.dying.reserve(self.by_koid.len() + 2)?;
-        self.by_koid
+        let alloc = *store.dying.allocator();
+        store.dying.reserve(store.by_koid.len() + 2)?;
+        store
+            .by_koid
             .insert(first, new_end(alloc, pair, second, handles))?;
-        if self
+        if store
             .by_koid
             .insert(second, new_end(alloc, pair, first, handles))
             .is_err()
         {
-            self.by_koid.remove(&first);
+            store.by_koid.remove(&first);
             return Err(AllocError);
         }
-        self.next_koid = second + 1;
+        store.next_koid = second + 1;
         Ok((first, second))
     }
 
@@ -199,33 +191,35 @@ impl Objects {
             (λ object. object.asleep ≡ false) }
         ensures { self.new ≡ without_newest self.old koid }
     {
-        let job = parent_at(&self.by_koid, koid);
-        self.children.remove(job, koid);
-        self.by_koid.pop_last();
-        self.next_koid = koid;
+        let store = &mut self.store;
+        let job = parent_at(&store.by_koid, koid);
+        store.children.remove(job, koid);
+        store.by_koid.pop_last();
+        store.next_koid = koid;
         // What its job had before is active there again.
-        mark_watched(&self.by_koid, &mut self.marks, Some(job));
+        mark_watched(&store.by_koid, &mut store.marks, Some(job));
     }
 
     /// What new objects take their memory from.
     pub(crate) fn alloc(&self) -> Global {
-        *self.dying.allocator()
+        *self.store.dying.allocator()
     }
 
     /// All objects are gone. It takes no memory.
     pub fn clear(&mut self)
         ensures { self.new ≡ record self.old { objects = []; waits = [] } }
     {
-        self.by_koid.clear();
-        self.children.clear();
-        self.waits.clear();
+        let store = &mut self.store;
+        store.by_koid.clear();
+        store.children.clear();
+        store.waits.clear();
     }
 
     /// Whether the koid is that of a job.
     pub fn is_job(&self, koid: Koid) -> bool
         ensures { result ≡ is_job_at self.now.objects koid }
     {
-        match self.by_koid.get(&koid) {
+        match self.store.by_koid.get(&koid) {
             Some(object) => matches!(object.body, Body::Job(_)),
             None => false,
         }
@@ -235,7 +229,7 @@ impl Objects {
     pub fn kind_of(&self, koid: Koid) -> Option<Kind>
         ensures { result ≡ kind_here self.now.objects koid }
     {
-        match self.by_koid.get(&koid) {
+        match self.store.by_koid.get(&koid) {
             Some(object) => Some(object.body.kind()),
             None => None,
         }
@@ -245,7 +239,7 @@ impl Objects {
     pub fn may_hold(&self, koid: Koid) -> bool
         ensures { result ≡ has_place (get self.now.objects koid) }
     {
-        match self.by_koid.get(&koid) {
+        match self.store.by_koid.get(&koid) {
             Some(object) => object.handles < Objects::MOST,
             None => false,
         }
@@ -256,7 +250,7 @@ impl Objects {
         ensures held { self.new ≡ holding self.old koid }
         ensures may { result ≡ has_place (get self.old.objects koid) }
     {
-        let Some(object) = self.by_koid.get_mut(&koid) else {
+        let Some(object) = self.store.by_koid.get_mut(&koid) else {
             return false;
         };
         object.hold_more()
@@ -266,11 +260,11 @@ impl Objects {
     pub fn change(&mut self, koid: Koid, clear: Signals, set: Signals)
         ensures { self.new ≡ changing self.old koid clear.0 set.0 }
     {
-        let Some(object) = self.by_koid.get_mut(&koid) else {
+        let Some(object) = self.store.by_koid.get_mut(&koid) else {
             return;
         };
         object.change(clear, set);
-        self.marks.add_if(object.is_watched(), koid);
+        self.store.marks.add_if(object.is_watched(), koid);
     }
 
     /// The other end of the channel or of the event pair whose end it is, while it is an object.
@@ -281,8 +275,8 @@ impl Objects {
         ensures kind { IfSome result
             (λ peer. kind_here self.now.objects peer ≡ kind_here self.now.objects koid) }
     {
-        let peer = self.by_koid.get(&koid)?.body.peer()?;
-        if self.by_koid.contains_key(&peer) {
+        let peer = self.store.by_koid.get(&koid)?.body.peer()?;
+        if self.store.by_koid.contains_key(&peer) {
             Some(peer)
         } else {
             None
@@ -297,8 +291,8 @@ impl Objects {
         ensures reader { result ≡ reader_at self.now.objects koid }
         ensures channel { IfSome result (λ reader. IsTrue (is_channel_at self.now.objects reader)) }
     {
-        let reader = self.by_koid.get(&koid)?.body.reader()?;
-        if self.by_koid.contains_key(&reader) {
+        let reader = self.store.by_koid.get(&koid)?.body.reader()?;
+        if self.store.by_koid.contains_key(&reader) {
             Some(reader)
         } else {
             None
@@ -317,11 +311,11 @@ impl Objects {
         ensures out_of_range { (result ≡ Err (PushFault.OutOfRange message))
             ↔ IsTrue (is_too_large_here message) }
     {
-        let Some(end) = self.by_koid.get_mut(&koid) else {
+        let Some(end) = self.store.by_koid.get_mut(&koid) else {
             return Ok(());
         };
         let sent = end.send(message);
-        self.marks.add_if(end.is_watched(), koid);
+        self.store.marks.add_if(end.is_watched(), koid);
         sent
     }
 
@@ -331,14 +325,14 @@ impl Objects {
         ensures first { result ≡ slice_get (queue_found (get self.old.objects koid)) 0 }
         ensures left { self.new ≡ receiving self.old koid }
     {
-        self.by_koid.get_mut(&koid)?.receive()
+        self.store.by_koid.get_mut(&koid)?.receive()
     }
 
     /// How many bytes and how many handles the first message has that is to be read at the end.
     pub fn front_sizes(&self, koid: Koid) -> Option<(usize, usize)>
         ensures { result ≡ front_sizes (queue_found (get self.now.objects koid)) }
     {
-        self.by_koid.get(&koid)?.body.front_sizes()
+        self.store.by_koid.get(&koid)?.body.front_sizes()
     }
 
     /// The handles in the first message that is to be read at the end, in order. None where no
@@ -346,7 +340,7 @@ impl Objects {
     pub fn front_handles(&self, koid: Koid) -> &[Entry]
         ensures { result.now ≡ front_handles (queue_found (get self.now.objects koid)) }
     {
-        match self.by_koid.get(&koid) {
+        match self.store.by_koid.get(&koid) {
             Some(object) => object.body.front_handles(),
             None => &[],
         }
@@ -369,17 +363,11 @@ impl Objects {
         ensures places { HavePlaces self.new.objects }
         ensures listed { LeavesListed self.old self.new }
     {
-        let_go(&mut self.by_koid, &mut self.dying, koid);
-        if self.dying.is_empty() {
+        let_go(&mut self.store.by_koid, &mut self.store.dying, koid);
+        if self.store.dying.is_empty() {
             return;
         }
-        remove_dying(
-            &mut self.by_koid,
-            &mut self.children,
-            &mut self.waits,
-            &mut self.dying,
-            &mut self.marks,
-        );
+        self.store.remove_dying();
     }
 
     /// The object goes if nothing keeps it, and what isn't held any more then. It takes no memory. The
@@ -391,14 +379,7 @@ impl Objects {
         ensures places { HavePlaces self.new.objects }
         ensures listed { LeavesListed self.old self.new }
     {
-        remove_unkept(
-            &mut self.by_koid,
-            &mut self.children,
-            &mut self.waits,
-            &mut self.dying,
-            &mut self.marks,
-            koid,
-        );
+        self.store.remove_unkept(koid);
     }
 }
 

@@ -117,7 +117,7 @@ impl Objects {
     pub fn is_port(&self, koid: Koid) -> bool
         ensures { result ≡ is_port_at self.now.objects koid }
     {
-        match self.by_koid.get(&koid) {
+        match self.store.by_koid.get(&koid) {
             Some(object) => matches!(object.body, Body::Port(_)),
             None => false,
         }
@@ -136,11 +136,11 @@ impl Objects {
         ensures should_wait { (result ≡ Err QueueFault.ShouldWait)
             ↔ (MOST_USER_PACKETS ≤ user_count (packets_found (get self.old.objects koid))) }
     {
-        let Some(object) = self.by_koid.get_mut(&koid) else {
+        let Some(object) = self.store.by_koid.get_mut(&koid) else {
             return Ok(());
         };
         let queued = object.queue_user(key, value);
-        self.marks.add_if(object.is_watched(), koid);
+        self.store.marks.add_if(object.is_watched(), koid);
         queued
     }
 
@@ -152,7 +152,7 @@ impl Objects {
         ensures first { result ≡ slice_get (packets_found (get self.old.objects koid)) 0 }
         ensures rest { self.new ≡ changing_port self.old koid without_front }
     {
-        self.by_koid.get_mut(&koid)?.pop()
+        self.store.by_koid.get_mut(&koid)?.pop()
     }
 
     /// Takes the packets with this key out of the port that waits of this source gave, and says how
@@ -165,7 +165,7 @@ impl Objects {
         ensures count { result
             ≡ length (filter (is_from source key) (packets_found (get self.old.objects koid))) }
     {
-        let Some(object) = self.by_koid.get_mut(&koid) else {
+        let Some(object) = self.store.by_koid.get_mut(&koid) else {
             return 0;
         };
         object.cancel(source, key)

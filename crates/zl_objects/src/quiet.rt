@@ -32,13 +32,15 @@ impl Objects {
         ensures same { AreSameButSleepers (knowing self.old (koid_of awaited)) self.new }
     {
         let koid = awaited.koid();
-        if !note_slept(&mut self.by_koid, koid) {
-            self.sleepers.crowded = true;
+        let store = &mut self.store;
+        if !note_slept(&mut store.by_koid, koid) {
+            store.sleepers.crowded = true;
             return;
         }
-        self.marks
-            .add_if(is_due(&self.by_koid, &self.children, &awaited), koid);
-        self.sleepers.put(Sleeper { pid, awaited });
+        store
+            .marks
+            .add_if(is_due(&store.by_koid, &store.children, &awaited), koid);
+        store.sleepers.put(Sleeper { pid, awaited });
     }
 
     /// Whether it is known that no registered wait holds, and that nothing is there for which a
@@ -52,7 +54,7 @@ impl Objects {
         ensures sleepers { result ≡ true → (pid : ℕ) (a : AwaitedValue)
             → Seeks self.now pid a → is_due self.now.objects a ≡ false }
     {
-        self.marks.is_empty() && !self.sleepers.crowded
+        self.store.marks.is_empty() && !self.store.sleepers.crowded
     }
 
     /// Whether perhaps not all processes that may be blocked are listed, as there was no room.
@@ -61,7 +63,7 @@ impl Objects {
     pub fn is_crowded(&self) -> bool
         ensures { result ≡ self.now.crowded }
     {
-        self.sleepers.crowded
+        self.store.sleepers.crowded
     }
 
     /// Takes one off the list that may be blocked, and has what it waits for: it is the first such
@@ -75,7 +77,7 @@ impl Objects {
         ensures same { IfNone result (self.new ≡ self.old) }
     {
         let place = self.due_place()?;
-        Some(self.sleepers.take(place))
+        Some(self.store.sleepers.take(place))
     }
 
     /// Where that one stands.
@@ -85,12 +87,13 @@ impl Objects {
             (All (λ s. is_due self.old.objects s.awaited ≡ false) self.old.sleepers) }
         ensures same { self.new ≡ self.old }
     {
-        match self.marks.koids() {
-            Some(koids) => self
-                .sleepers
-                .due_among(&self.by_koid, &self.children, koids),
-            None => self.sleepers.due_anywhere(&self.by_koid, &self.children),
-        }
+        let store = &mut self.store;
+        let Some(koids) = store.marks.koids() else {
+            return store.sleepers.due_anywhere(&store.by_koid, &store.children);
+        };
+        store
+            .sleepers
+            .due_among(&store.by_koid, &store.children, koids)
     }
 
     /// Nobody is listed any more, which is right where not all are. It takes no memory.
@@ -99,7 +102,7 @@ impl Objects {
     pub fn forget_sleepers(&mut self)
         ensures { self.new ≡ record self.old { sleepers = [] } }
     {
-        self.sleepers.clear();
+        self.store.sleepers.clear();
     }
 
     /// Each object that was touched has been looked at: no registered wait holds any more, and nobody
@@ -111,7 +114,7 @@ impl Objects {
         requires sleepers { All (λ s. is_due self.old.objects s.awaited ≡ false) self.old.sleepers }
         ensures { self.new ≡ self.old }
     {
-        self.marks.clear();
+        self.store.marks.clear();
     }
 }
 

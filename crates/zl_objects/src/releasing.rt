@@ -3,26 +3,29 @@
 //! An object that may have to go is noted in `dying`, which has room for each object. It stays with
 //! its queue until it is looked at again.
 
-ghost use Rattle.std.specs.Prelude.{◌≡◌, ◌≤◌, ◌<◌, ◌+◌, ◌++◌, ◌∷◌, [], if◌then◌else◌, is_some, filter, length, ℕ, vec_capacity, IfSome, IsTrue};
+ghost use Rattle.std.specs.Prelude.{◌≡◌, ◌≤◌, ◌<◌, ◌+◌, ◌++◌, ◌∷◌, [], if◌then◌else◌, is_some, length, ℕ, vec_capacity, IfSome, IsTrue};
 ghost use Rattle.std.specs.FinMap.Entries.{is_sorted};
 ghost use Rattle.std.specs.Option.{option_to_list};
 ghost use Rattle.std.specs.Ordering.{nat_cmp};
-ghost use Rattle.zl_rights.specs.Map.{each, get, has_key, update};
+ghost use Rattle.zl_rights.specs.Map.{each, get, update};
 ghost use Rattle.zl_objects.specs.Below.{looked_at};
-ghost use Rattle.zl_objects.specs.Calm.{is_marked, is_watched_in, KeepsCalm, StayStill};
+ghost use Rattle.zl_objects.specs.Calm.{is_marked, is_watched_in, StayStill};
 ghost use Rattle.zl_objects.specs.Objects.{held_once_less, is_kept, queue_held};
 ghost use Rattle.zl_objects.specs.Release.{all_koids, koids_in, named_in};
 ghost use Rattle.zl_objects.specs.Dying.{budget, is_last, is_unkept, left_at, unkept_at, LetsGo};
 ghost use Rattle.zl_objects.specs.Index.{IsIndexed};
-ghost use Rattle.zl_objects.specs.Listed.{is_entry_there, AreListed};
-ghost use Rattle.zl_objects.specs.PortWaits.{without_ended, without_given, without_own, AreOwn, AreRegistered};
+ghost use Rattle.zl_objects.specs.Listed.{AreListed};
+ghost use Rattle.zl_objects.specs.PortWaits.{without_ended, without_given, without_own, AreOwn};
+ghost use Rattle.zl_objects.specs.Store.{Sheds};
 ghost use Rattle.zl_objects.specs.Waits.{ending_port, giving_back, without_port_waits};
 
+use crate::below::TaskList;
 use crate::children::{Children, has_living_child};
 use crate::killing::next_from;
 use crate::listing::{WaitList, unlist};
 use crate::marks::Marks;
 use crate::object::{Body, Object};
+use crate::store::Store;
 use crate::waits::{give_back, is_watched};
 use std::collections::BTreeMap;
 use zl_channel::ChannelEnd;
@@ -234,199 +237,103 @@ fn note_keeper(dying: &mut Vec<Koid>, keeper: Option<Koid>)
     }
 }
 
-/// The object that was noted goes with its queue and its waits, unless something keeps it, and the
-/// job of which it was a living child is noted. Signals come there, and at its peer.
-fn remove_noted(
-    by_koid: &mut BTreeMap<Koid, Object>,
-    children: &mut Children,
-    waits: &mut WaitList,
-    dying: &mut Vec<Koid>,
-    marks: &mut Marks,
-    koid: Koid,
-)
-    requires indexed { IsIndexed children.old by_koid.old.entries }
-    requires registered { AreRegistered waits.old.entries.items by_koid.old.entries }
-    requires fits { budget by_koid.old.entries (dying.old.items ++ koid ∷ [])
-        ≤ vec_capacity dying.old }
-    ensures indexed { IsIndexed children.new by_koid.new.entries }
-    ensures registered { AreRegistered waits.new.entries.items by_koid.new.entries }
-    ensures goes { LetsGo [] by_koid.old.entries (dying.old.items ++ koid ∷ [])
-        by_koid.new.entries dying.new.items }
-    ensures less { budget by_koid.new.entries dying.new.items + length by_koid.new.entries
-        < budget by_koid.old.entries (dying.old.items ++ koid ∷ []) + length by_koid.old.entries }
-    ensures calm { KeepsCalm (is_marked marks.old) by_koid.old.entries
-        (is_marked marks.new) by_koid.new.entries }
-    ensures entries { waits.new.entries.items
-        ≡ filter (is_entry_there by_koid.new.entries) waits.old.entries.items }
-    ensures made { waits.new.made ≡ waits.old.made }
-    ensures capacity { vec_capacity dying.new ≡ vec_capacity dying.old }
-{
-    let Some(gone) = take_unkept(by_koid, children, koid) else {
-        return;
-    };
-    children.remove(gone.body.parent(), koid);
-    let (keeper, peer) = (gone.body.keeper(), gone.body.peer());
-    let reserved = gone.body.has_reserved();
-    let Object { body, signals, .. } = gone;
-    end_waits(by_koid, waits, koid, reserved, signals);
-    note_keeper(dying, keeper);
-    mark_watched(by_koid, marks, keeper);
-    mark_watched(by_koid, marks, peer);
-    let_go_body(by_koid, dying, body);
-}
-
-/// The noted objects go, and what goes with them.
-pub fn remove_dying(
-    by_koid: &mut BTreeMap<Koid, Object>,
-    children: &mut Children,
-    waits: &mut WaitList,
-    dying: &mut Vec<Koid>,
-    marks: &mut Marks,
-)
-    requires indexed { IsIndexed children.old by_koid.old.entries }
-    requires registered { AreRegistered waits.old.entries.items by_koid.old.entries }
-    requires fits { budget by_koid.old.entries dying.old.items ≤ vec_capacity dying.old }
-    ensures indexed { IsIndexed children.new by_koid.new.entries }
-    ensures registered { AreRegistered waits.new.entries.items by_koid.new.entries }
-    ensures goes { LetsGo []
-        by_koid.old.entries dying.old.items by_koid.new.entries dying.new.items }
-    ensures calm { KeepsCalm (is_marked marks.old) by_koid.old.entries
-        (is_marked marks.new) by_koid.new.entries }
-    ensures entries { waits.new.entries.items
-        ≡ filter (is_entry_there by_koid.new.entries) waits.old.entries.items }
-    ensures made { waits.new.made ≡ waits.old.made }
-    ensures none { dying.new.items ≡ [] }
-    ensures capacity { vec_capacity dying.new ≡ vec_capacity dying.old }
-{
-    while let Some(koid) = dying.pop() {
-        remove_noted(by_koid, children, waits, dying, marks, koid);
+impl Store {
+    /// The object that was noted goes with its queue and its waits, unless something keeps it, and
+    /// the job of which it was a living child is noted. Signals come there, and at its peer.
+    fn remove_noted(&mut self, koid: Koid)
+        requires fits { budget self.old.by_koid.entries (self.old.dying.items ++ koid ∷ [])
+            ≤ vec_capacity self.old.dying }
+        ensures goes { LetsGo [] self.old.by_koid.entries (self.old.dying.items ++ koid ∷ [])
+            self.new.by_koid.entries self.new.dying.items }
+        ensures less { budget self.new.by_koid.entries self.new.dying.items
+            + length self.new.by_koid.entries
+            < budget self.old.by_koid.entries (self.old.dying.items ++ koid ∷ [])
+            + length self.old.by_koid.entries }
+        ensures capacity { vec_capacity self.new.dying ≡ vec_capacity self.old.dying }
+        ensures sheds { Sheds self.old self.new }
+    {
+        let Some(gone) = take_unkept(&mut self.by_koid, &self.children, koid) else {
+            return;
+        };
+        self.children.remove(gone.body.parent(), koid);
+        let (keeper, peer) = (gone.body.keeper(), gone.body.peer());
+        let reserved = gone.body.has_reserved();
+        let Object { body, signals, .. } = gone;
+        end_waits(&mut self.by_koid, &mut self.waits, koid, reserved, signals);
+        note_keeper(&mut self.dying, keeper);
+        mark_watched(&self.by_koid, &mut self.marks, keeper);
+        mark_watched(&self.by_koid, &mut self.marks, peer);
+        let_go_body(&mut self.by_koid, &mut self.dying, body);
     }
-}
 
-/// The object goes, unless something keeps it, and what goes with it.
-pub fn remove_unkept(
-    by_koid: &mut BTreeMap<Koid, Object>,
-    children: &mut Children,
-    waits: &mut WaitList,
-    dying: &mut Vec<Koid>,
-    marks: &mut Marks,
-    koid: Koid,
-)
-    requires indexed { IsIndexed children.old by_koid.old.entries }
-    requires registered { AreRegistered waits.old.entries.items by_koid.old.entries }
-    requires none { dying.old.items ≡ [] }
-    requires room { length by_koid.old.entries ≤ vec_capacity dying.old }
-    ensures indexed { IsIndexed children.new by_koid.new.entries }
-    ensures registered { AreRegistered waits.new.entries.items by_koid.new.entries }
-    ensures goes { LetsGo [] by_koid.old.entries (koid ∷ []) by_koid.new.entries [] }
-    ensures calm { KeepsCalm (is_marked marks.old) by_koid.old.entries
-        (is_marked marks.new) by_koid.new.entries }
-    ensures entries { waits.new.entries.items
-        ≡ filter (is_entry_there by_koid.new.entries) waits.old.entries.items }
-    ensures made { waits.new.made ≡ waits.old.made }
-    ensures none { dying.new.items ≡ [] }
-    ensures capacity { vec_capacity dying.new ≡ vec_capacity dying.old }
-{
-    if is_unkept(by_koid, children, koid) {
-        dying.push_reserved(koid);
-        remove_dying(by_koid, children, waits, dying, marks);
+    /// The noted objects go, and what goes with them.
+    pub fn remove_dying(&mut self)
+        requires fits { budget self.old.by_koid.entries self.old.dying.items
+            ≤ vec_capacity self.old.dying }
+        ensures goes { LetsGo [] self.old.by_koid.entries self.old.dying.items
+            self.new.by_koid.entries [] }
+        ensures none { self.new.dying.items ≡ [] }
+        ensures sheds { Sheds self.old self.new }
+    {
+        while let Some(koid) = self.dying.pop() {
+            self.remove_noted(koid);
+        }
     }
-}
 
-/// Of these the objects that nothing keeps go, and what goes with them.
-fn sweep_each(
-    by_koid: &mut BTreeMap<Koid, Object>,
-    children: &mut Children,
-    waits: &mut WaitList,
-    dying: &mut Vec<Koid>,
-    marks: &mut Marks,
-    koids: &[Koid],
-)
-    requires indexed { IsIndexed children.old by_koid.old.entries }
-    requires registered { AreRegistered waits.old.entries.items by_koid.old.entries }
-    requires none { dying.old.items ≡ [] }
-    requires room { length by_koid.old.entries ≤ vec_capacity dying.old }
-    ensures indexed { IsIndexed children.new by_koid.new.entries }
-    ensures registered { AreRegistered waits.new.entries.items by_koid.new.entries }
-    ensures goes { LetsGo [] by_koid.old.entries koids.now by_koid.new.entries [] }
-    ensures calm { KeepsCalm (is_marked marks.old) by_koid.old.entries
-        (is_marked marks.new) by_koid.new.entries }
-    ensures entries { waits.new.entries.items
-        ≡ filter (is_entry_there by_koid.new.entries) waits.old.entries.items }
-    ensures made { waits.new.made ≡ waits.old.made }
-    ensures none { dying.new.items ≡ [] }
-    ensures capacity { vec_capacity dying.new ≡ vec_capacity dying.old }
-{
-    for koid in koids {
-        remove_unkept(by_koid, children, waits, dying, marks, *koid);
+    /// The object goes, unless something keeps it, and what goes with it.
+    pub fn remove_unkept(&mut self, koid: Koid)
+        requires { self.old.dying.items ≡ [] }
+        ensures goes { LetsGo [] self.old.by_koid.entries (koid ∷ []) self.new.by_koid.entries [] }
+        ensures none { self.new.dying.items ≡ [] }
+        ensures sheds { Sheds self.old self.new }
+    {
+        if is_unkept(&self.by_koid, &self.children, koid) {
+            self.dying.push_reserved(koid);
+            self.remove_dying();
+        }
     }
-}
 
-/// Of these the objects that nothing keeps go, if they were listed, and else of all, and what goes
-/// with them. All koids lie below the end.
-pub fn sweep_task(
-    by_koid: &mut BTreeMap<Koid, Object>,
-    children: &mut Children,
-    waits: &mut WaitList,
-    dying: &mut Vec<Koid>,
-    marks: &mut Marks,
-    end: Koid,
-    koids: &[Koid],
-    listed: bool,
-)
-    requires indexed { IsIndexed children.old by_koid.old.entries }
-    requires registered { AreRegistered waits.old.entries.items by_koid.old.entries }
-    requires below { (k : ℕ) → IsTrue (has_key by_koid.old.entries k) → k < end }
-    requires none { dying.old.items ≡ [] }
-    requires room { length by_koid.old.entries ≤ vec_capacity dying.old }
-    ensures indexed { IsIndexed children.new by_koid.new.entries }
-    ensures registered { AreRegistered waits.new.entries.items by_koid.new.entries }
-    ensures goes { LetsGo [] by_koid.old.entries
-        (looked_at listed koids.now by_koid.old.entries) by_koid.new.entries [] }
-    ensures calm { KeepsCalm (is_marked marks.old) by_koid.old.entries
-        (is_marked marks.new) by_koid.new.entries }
-    ensures entries { waits.new.entries.items
-        ≡ filter (is_entry_there by_koid.new.entries) waits.old.entries.items }
-    ensures made { waits.new.made ≡ waits.old.made }
-    ensures none { dying.new.items ≡ [] }
-    ensures capacity { vec_capacity dying.new ≡ vec_capacity dying.old }
-{
-    if listed {
-        sweep_each(by_koid, children, waits, dying, marks, koids);
-        return;
+    /// Of these the objects that nothing keeps go, and what goes with them.
+    fn sweep_each(&mut self, koids: &[Koid])
+        requires { self.old.dying.items ≡ [] }
+        ensures goes { LetsGo [] self.old.by_koid.entries koids.now self.new.by_koid.entries [] }
+        ensures none { self.new.dying.items ≡ [] }
+        ensures sheds { Sheds self.old self.new }
+    {
+        for koid in koids {
+            self.remove_unkept(*koid);
+        }
     }
-    sweep(by_koid, children, waits, dying, marks, end);
-}
 
-/// Each object that nothing keeps goes, and what goes with it. All koids lie below the end.
-fn sweep(
-    by_koid: &mut BTreeMap<Koid, Object>,
-    children: &mut Children,
-    waits: &mut WaitList,
-    dying: &mut Vec<Koid>,
-    marks: &mut Marks,
-    end: Koid,
-)
-    requires indexed { IsIndexed children.old by_koid.old.entries }
-    requires registered { AreRegistered waits.old.entries.items by_koid.old.entries }
-    requires below { (k : ℕ) → IsTrue (has_key by_koid.old.entries k) → k < end }
-    requires none { dying.old.items ≡ [] }
-    requires room { length by_koid.old.entries ≤ vec_capacity dying.old }
-    ensures indexed { IsIndexed children.new by_koid.new.entries }
-    ensures registered { AreRegistered waits.new.entries.items by_koid.new.entries }
-    ensures goes { LetsGo [] by_koid.old.entries (all_koids by_koid.old.entries)
-        by_koid.new.entries [] }
-    ensures calm { KeepsCalm (is_marked marks.old) by_koid.old.entries
-        (is_marked marks.new) by_koid.new.entries }
-    ensures entries { waits.new.entries.items
-        ≡ filter (is_entry_there by_koid.new.entries) waits.old.entries.items }
-    ensures made { waits.new.made ≡ waits.old.made }
-    ensures none { dying.new.items ≡ [] }
-    ensures capacity { vec_capacity dying.new ≡ vec_capacity dying.old }
-{
-    let mut from = 0;
-    while let Some(koid) = next_from(by_koid, from) {
-        remove_unkept(by_koid, children, waits, dying, marks, koid);
-        from = koid + 1;
+    /// Of those listed the objects that nothing keeps go, if the list is whole, and else of all, and
+    /// what goes with them.
+    pub fn sweep_task(&mut self, list: &TaskList)
+        requires { self.old.dying.items ≡ [] }
+        ensures goes { LetsGo [] self.old.by_koid.entries
+            (looked_at list.now.whole list.now.koids.items self.old.by_koid.entries)
+            self.new.by_koid.entries [] }
+        ensures none { self.new.dying.items ≡ [] }
+        ensures sheds { Sheds self.old self.new }
+    {
+        if list.whole {
+            self.sweep_each(list.koids.as_slice());
+            return;
+        }
+        self.sweep();
+    }
+
+    /// Each object that nothing keeps goes, and what goes with it.
+    fn sweep(&mut self)
+        requires { self.old.dying.items ≡ [] }
+        ensures goes { LetsGo [] self.old.by_koid.entries (all_koids self.old.by_koid.entries)
+            self.new.by_koid.entries [] }
+        ensures none { self.new.dying.items ≡ [] }
+        ensures sheds { Sheds self.old self.new }
+    {
+        let mut from = 0;
+        while let Some(koid) = next_from(&self.by_koid, from) {
+            self.remove_unkept(koid);
+            from = koid + 1;
+        }
     }
 }

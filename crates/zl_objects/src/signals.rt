@@ -26,7 +26,7 @@ impl Objects {
         ensures signals { result.0 ≡ signals_at self.now.objects koid }
         ensures active { AreActive self.now.objects koid result.0 }
     {
-        signals_at(&self.by_koid, &self.children, koid)
+        signals_at(&self.store.by_koid, &self.store.children, koid)
     }
 }
 

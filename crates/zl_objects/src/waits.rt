@@ -97,14 +97,15 @@ impl Objects {
         ensures ok { OnOk result (self.new ≡ watching self.old wait) }
         ensures unchanged { OnErr result (self.new ≡ self.old) }
     {
-        let order = self.waits.made;
-        self.waits.push(wait)?;
-        if stand(&mut self.by_koid, wait, order).is_err() {
-            self.waits.take_back(order);
+        let store = &mut self.store;
+        let order = store.waits.made;
+        store.waits.push(wait)?;
+        if stand(&mut store.by_koid, wait, order).is_err() {
+            store.waits.take_back(order);
             return Err(AllocError);
         }
         // A signal that is active already counts too.
-        self.marks.add_if(true, wait.object);
+        store.marks.add_if(true, wait.object);
         Ok(())
     }
 
@@ -121,9 +122,10 @@ impl Objects {
         ensures rest { self.new ≡ unwatching (unlisting (is_made_at koid pid value) self.old) koid
             (is_by_handle_here pid value) }
     {
-        let wait = take_handle(&mut self.by_koid, koid, pid, value)?;
-        unlist(&mut self.waits, wait.order);
-        give_back(&mut self.by_koid, wait.port);
+        let store = &mut self.store;
+        let wait = take_handle(&mut store.by_koid, koid, pid, value)?;
+        unlist(&mut store.waits, wait.order);
+        give_back(&mut store.by_koid, wait.port);
         Some(wait)
     }
 
@@ -136,9 +138,10 @@ impl Objects {
         ensures rest { self.new ≡ unwatching (unlisting (is_given_from koid port) self.old) koid
             (is_at_port port) }
     {
-        let wait = take_port(&mut self.by_koid, koid, port)?;
-        unlist(&mut self.waits, wait.order);
-        give_back(&mut self.by_koid, wait.port);
+        let store = &mut self.store;
+        let wait = take_port(&mut store.by_koid, koid, port)?;
+        unlist(&mut store.waits, wait.order);
+        give_back(&mut store.by_koid, wait.port);
         Some(wait)
     }
 
@@ -164,9 +167,10 @@ impl Objects {
             (is_keyed_here pid value port key) }
         ensures unchanged { IfNone result (self.new ≡ self.old) }
     {
-        let wait = take_key(&mut self.by_koid, koid, pid, value, port, key)?;
-        unlist(&mut self.waits, wait.order);
-        give_back(&mut self.by_koid, wait.port);
+        let store = &mut self.store;
+        let wait = take_key(&mut store.by_koid, koid, pid, value, port, key)?;
+        unlist(&mut store.waits, wait.order);
+        give_back(&mut store.by_koid, wait.port);
         Some(wait)
     }
 
@@ -177,7 +181,7 @@ impl Objects {
     pub fn next_order(&self, koid: Koid, active: Signals) -> Option<u64>
         ensures { result ≡ order_found active.0 (get self.now.objects koid) }
     {
-        self.by_koid.get(&koid)?.signals.next_order(active)
+        self.store.by_koid.get(&koid)?.signals.next_order(active)
     }
 
     /// Takes out the earliest wait at the object that holds, as a signal of its mask is among the
@@ -193,11 +197,17 @@ impl Objects {
             ≡ find (holds_at koid active.0) self.old.waits }
         ensures rest { self.new ≡ firing (unlisting (holds_at koid active.0) self.old) koid active.0 }
     {
-        let wait = take_holding(&mut self.by_koid, koid, active)?;
-        unlist(&mut self.waits, wait.order);
-        queue_signal(&mut self.by_koid, wait.port, packet_of(koid, active, &wait));
-        self.marks
-            .add_if(is_watched(&self.by_koid, wait.port), wait.port);
+        let store = &mut self.store;
+        let wait = take_holding(&mut store.by_koid, koid, active)?;
+        unlist(&mut store.waits, wait.order);
+        queue_signal(
+            &mut store.by_koid,
+            wait.port,
+            packet_of(koid, active, &wait),
+        );
+        store
+            .marks
+            .add_if(is_watched(&store.by_koid, wait.port), wait.port);
         Some(wait)
     }
 }

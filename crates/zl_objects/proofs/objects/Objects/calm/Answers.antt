@@ -3,11 +3,11 @@ use Rattle.zl_objects.proofs.CalmMade.{calmed}
 use Rattle.zl_objects.proofs.Listed.{seen_listed}
 use Rattle.zl_objects.proofs.objects.Objects.calm.Goals as goal
 
-pub invariant_of-self : goal.invariant_of-self
-invariant_of-self c = record {
-  kept = c.self.invariant.kept;
-  calm = calmed c.self.inside.by_koid.entries (map listed_value c.self.inside.waits.entries.items) c.self.inside.sleepers.list.items
-      (seen_listed c.self.inside.waits.entries.items c.self.inside.by_koid.entries c.self.invariant.kept.listed)
-      (rw (← c.self.view_is) at c.requires.waits) (rw (← c.self.view_is) at c.requires.sleepers) c.self.invariant.calm;
-  indexed = c.self.invariant.indexed;
+pub invariant_of-self-inside : goal.invariant_of-self-inside
+invariant_of-self-inside c = record {
+  kept = c.self.inside.store.kept;
+  calm = calmed c.self.inside.store.by_koid.entries (map listed_value c.self.inside.store.waits.entries.items) c.self.inside.store.sleepers.list.items
+      (seen_listed c.self.inside.store.waits.entries.items c.self.inside.store.by_koid.entries c.self.inside.store.kept.listed)
+      (rw (← c.self.view_is) at c.requires.waits) (rw (← c.self.view_is) at c.requires.sleepers) c.self.inside.store.calm;
+  indexed = c.self.inside.store.indexed;
 }

@@ -6,8 +6,8 @@ where_none : {X : Type 0} (o : Option X) {P Q : Type 0} → IfNone o P → (P �
 where_none None h f = f h
 where_none (Some x) h f = h
 
-pub returns-in-Some-clause-none : goal.returns-in-Some-clause-none
-returns-in-Some-clause-none c =
+pub returns-clause-none : goal.returns-clause-none
+returns-clause-none c =
     rw (← c.self.view_is) (where_none c.due_among.result c.due_among.ensures.none
-    (λ none. none_due c.self.inside.by_koid.entries c.self.inside.sleepers.list.items c.in-Some.koids.now (c.in-Some.ensures {u = tt}) none
-    c.self.invariant.calm))
+    (λ none. none_due c.self.inside.store.by_koid.entries c.self.inside.store.sleepers.list.items c.in-Some.koids.now (c.in-Some.ensures {u = tt}) none
+    c.self.inside.store.calm))

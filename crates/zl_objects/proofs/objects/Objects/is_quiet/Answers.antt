@@ -5,6 +5,6 @@ use Rattle.zl_objects.proofs.objects.Objects.is_quiet.Goals as goal
 
 pub returns-then-is_empty-clause-waits : goal.returns-then-is_empty-clause-waits
 returns-then-is_empty-clause-waits c = λ quiet. rw (← c.self.view_is)
-    (none_listed_holds c.self.inside.by_koid.entries (map listed_value c.self.inside.waits.entries.items)
-    (seen_listed c.self.inside.waits.entries.items c.self.inside.by_koid.entries c.self.invariant.kept.listed)
-    (λ k o at. c.self.invariant.calm.waits k o at (c.is_empty.ensures c.if-is_empty.true k)))
+    (none_listed_holds c.self.inside.store.by_koid.entries (map listed_value c.self.inside.store.waits.entries.items)
+    (seen_listed c.self.inside.store.waits.entries.items c.self.inside.store.by_koid.entries c.self.inside.store.kept.listed)
+    (λ k o at. c.self.inside.store.calm.waits k o at (c.is_empty.ensures c.if-is_empty.true k)))

@@ -5,6 +5,7 @@ use Rattle.zl_objects.proofs.objects.Objects.reader.Goals as goal
 
 pub returns-then-contains_key-clause-channel : goal.returns-then-contains_key-clause-channel
 returns-then-contains_key-clause-channel c =
-    let at : reader_at c.self.inside.by_koid.entries c.args.koid ≡ Some c.in_ok-reader.reader = search (rules, by_koid) in
+    let at : reader_at c.self.inside.store.by_koid.entries c.args.koid ≡ Some c.in_ok-reader.reader = search (rules, by_koid) in
     rw (← c.self.view_is)
-    (reader_of_channel c.self.inside.by_koid.entries c.self.inside.next_koid c.self.invariant.kept.whole.peers c.args.koid c.in_ok-reader.reader at)
+    (reader_of_channel c.self.inside.store.by_koid.entries c.self.inside.store.next_koid c.self.inside.store.kept.whole.peers c.args.koid
+    c.in_ok-reader.reader at)

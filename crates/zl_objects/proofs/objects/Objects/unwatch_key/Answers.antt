@@ -6,44 +6,39 @@ use Rattle.zl_objects.proofs.Kept.{gone_kept, gone_seen, none_out_kept, none_out
 use Rattle.zl_objects.proofs.Listed.{found_seen}
 use Rattle.zl_objects.proofs.objects.Objects.unwatch_key.Goals as goal
 
-pub invariant_of-self : goal.invariant_of-self
-invariant_of-self c = record {
+pub invariant_of-store : goal.invariant_of-store
+invariant_of-store c = record {
   kept = none_out_kept c.args.koid (λ x. ((x.pid == c.args.pid) && (x.value == c.args.value)) && ((x.port == c.args.port) && (x.key == c.args.key)))
-      c.self.invariant.kept c.take_key.ensures.rest
-      (sym c.take_key.ensures.earliest ∙ c.in_err-wait.was {u = tt});
-  calm = unwatched_calm (is_keyed_here c.args.pid c.args.value c.args.port c.args.key) c.self.inside.by_koid.entries c.take_key.new.by_koid.entries c.args.koid
-      c.take_key.ensures.rest c.self.invariant.calm;
-  indexed = unwatched_indexed (is_keyed_here c.args.pid c.args.value c.args.port c.args.key) c.args.koid c.self.invariant.indexed c.take_key.ensures.rest;
+      c.self.inside.store.kept c.take_key.ensures.rest (sym c.take_key.ensures.earliest ∙ c.in_err-wait.was {u = tt});
+  calm = unwatched_calm (is_keyed_here c.args.pid c.args.value c.args.port c.args.key) _ _ c.args.koid c.take_key.ensures.rest
+      c.self.inside.store.calm;
+  indexed = unwatched_indexed (is_keyed_here c.args.pid c.args.value c.args.port c.args.key) c.args.koid c.self.inside.store.indexed c.take_key.ensures.rest;
 }
 
-pub invariant_of-self-2 : goal.invariant_of-self-2
-invariant_of-self-2 c = record {
+pub invariant_of-store-2 : goal.invariant_of-store-2
+invariant_of-store-2 c = record {
   kept = gone_kept c.args.koid (λ x. ((x.pid == c.args.pid) && (x.value == c.args.value)) && ((x.port == c.args.port) && (x.key == c.args.key)))
-      c.self.invariant.kept c.take_key.ensures.rest
-      c.self.inside.waits.rising
-      (sym c.take_key.ensures.earliest ∙ c.in_ok-wait.was {u = tt}) c.unlist.ensures.entries without_place (λ p. refl) c.give_back.new.by_koid.entries
-      c.give_back.ensures;
+      c.self.inside.store.kept c.take_key.ensures.rest c.self.inside.store.waits.rising (sym c.take_key.ensures.earliest ∙ c.in_ok-wait.was {u = tt})
+      c.unlist.ensures.entries without_place (λ p. refl) c.give_back.new.by_koid.entries c.give_back.ensures;
   calm = port_calm without_place (λ p h. h) c.take_key.new.by_koid.entries
       c.give_back.new.by_koid.entries c.in_ok-wait.wait.port c.give_back.ensures
-      (unwatched_calm (is_keyed_here c.args.pid c.args.value c.args.port c.args.key) c.self.inside.by_koid.entries c.take_key.new.by_koid.entries c.args.koid
-      c.take_key.ensures.rest c.self.invariant.calm);
+      (unwatched_calm (is_keyed_here c.args.pid c.args.value c.args.port c.args.key) _ _ c.args.koid c.take_key.ensures.rest
+      c.self.inside.store.calm);
   indexed = port_indexed without_place c.in_ok-wait.wait.port
-      (unwatched_indexed (is_keyed_here c.args.pid c.args.value c.args.port c.args.key) c.args.koid c.self.invariant.indexed c.take_key.ensures.rest)
+      (unwatched_indexed (is_keyed_here c.args.pid c.args.value c.args.port c.args.key) c.args.koid c.self.inside.store.indexed c.take_key.ensures.rest)
       c.give_back.ensures;
 }
 
 pub returns-in_err-wait-clause-rest : goal.returns-in_err-wait-clause-rest
 returns-in_err-wait-clause-rest c =
     let seen = none_out_seen c.args.koid (λ x. ((x.pid == c.args.pid) && (x.value == c.args.value)) && ((x.port == c.args.port) && (x.key == c.args.key)))
-    c.self.invariant.kept c.take_key.ensures.rest
-    (sym c.take_key.ensures.earliest ∙ c.in_err-wait.was {u = tt}) in
+    c.self.inside.store.kept c.take_key.ensures.rest (sym c.take_key.ensures.earliest ∙ c.in_err-wait.was {u = tt}) in
     search rules
 
 pub returns-clause-rest : goal.returns-clause-rest
 returns-clause-rest c =
     let seen = gone_seen c.args.koid (λ x. ((x.pid == c.args.pid) && (x.value == c.args.value)) && ((x.port == c.args.port) && (x.key == c.args.key)))
-    c.self.invariant.kept c.take_key.ensures.rest
-    c.self.inside.waits.rising
+    c.self.inside.store.kept c.take_key.ensures.rest c.self.inside.store.waits.rising
     (sym c.take_key.ensures.earliest ∙ c.in_ok-wait.was {u = tt}) c.unlist.ensures.entries in
     search rules
 
@@ -51,16 +46,16 @@ pub returns-in_err-wait-clause-listed : goal.returns-in_err-wait-clause-listed
 returns-in_err-wait-clause-listed c =
     rw (← c.self.view_is) (ap (option_map (wait_at c.args.koid)) (c.from_residual.ensures ∙ (sym (c.in_err-wait.was {u = tt}) ∙ c.take_key.ensures.earliest))
     ∙ sym (found_seen c.args.koid (λ x. ((x.pid == c.args.pid) && (x.value == c.args.value)) && ((x.port == c.args.port) && (x.key == c.args.key)))
-    c.self.inside.waits.entries.items c.self.inside.by_koid.entries c.self.invariant.kept.listed))
+    c.self.inside.store.waits.entries.items c.self.inside.store.by_koid.entries c.self.inside.store.kept.listed))
 
 pub returns-clause-listed : goal.returns-clause-listed
 returns-clause-listed c =
     rw (← c.self.view_is) (ap (option_map (wait_at c.args.koid)) (sym (c.in_ok-wait.was {u = tt}) ∙ c.take_key.ensures.earliest)
     ∙ sym (found_seen c.args.koid (λ x. ((x.pid == c.args.pid) && (x.value == c.args.value)) && ((x.port == c.args.port) && (x.key == c.args.key)))
-    c.self.inside.waits.entries.items c.self.inside.by_koid.entries c.self.invariant.kept.listed))
+    c.self.inside.store.waits.entries.items c.self.inside.store.by_koid.entries c.self.inside.store.kept.listed))
 
 pub returns-in_err-wait-clause-unchanged : goal.returns-in_err-wait-clause-unchanged
 returns-in_err-wait-clause-unchanged c =
-    let same = c.take_key.ensures.rest ∙ unwatched_none (is_keyed_here c.args.pid c.args.value c.args.port c.args.key) c.self.inside.by_koid.entries c.args.koid
+    let same = c.take_key.ensures.rest ∙ unwatched_none (is_keyed_here c.args.pid c.args.value c.args.port c.args.key) _ c.args.koid
     (sym c.take_key.ensures.earliest ∙ c.in_err-wait.was {u = tt}) in
     rw (same, c.self.view_is) (search rules)

@@ -21,6 +21,15 @@ use zl_port::{Packet, PacketKind, Source};
 use zl_rights::{HValue, Koid, Pid, Signals};
 use zl_signals::Watch;
 
+/// The waits that were made by a handle of a process, for a packet with the key to the port.
+#[derive(Clone, Copy)]
+struct Keyed {
+    pid: Pid,
+    value: HValue,
+    port: Koid,
+    key: u64,
+}
+
 impl Object {
     /// Registers the wait behind all others.
     pub(crate) fn watch(&mut self, watch: Watch) -> Result<(), AllocFailed<Watch>>
@@ -56,20 +65,16 @@ impl Object {
         self.signals.end_port(port);
     }
 
-    /// Takes out the earliest wait that was made by that handle, for a packet with the key to the
-    /// port.
-    pub(crate) fn unwatch_key(
-        &mut self,
-        pid: Pid,
-        value: HValue,
-        port: Koid,
-        key: u64,
-    ) -> Option<Watch>
-        ensures earliest { result ≡ find (is_keyed_here pid value port key) self.old.signals.waits }
-        ensures rest { self.new ≡ unwatched (is_keyed_here pid value port key) self.old }
+    /// Takes out the earliest of these waits.
+    fn unwatch_key(&mut self, keyed: Keyed) -> Option<Watch>
+        ensures earliest { result
+            ≡ find (is_keyed_here keyed.pid keyed.value keyed.port keyed.key) self.old.signals.waits }
+        ensures rest { self.new
+            ≡ unwatched (is_keyed_here keyed.pid keyed.value keyed.port keyed.key) self.old }
         ensures unchanged { IfNone result (self.new ≡ self.old) }
     {
-        self.signals.unwatch_key(pid, value, port, key)
+        self.signals
+            .unwatch_key(keyed.pid, keyed.value, keyed.port, keyed.key)
     }
 
     /// Takes out the earliest wait that holds.
@@ -168,7 +173,13 @@ impl Objects {
         ensures unchanged { IfNone result (self.new ≡ self.old) }
     {
         let store = &mut self.store;
-        let wait = take_key(&mut store.by_koid, koid, pid, value, port, key)?;
+        let keyed = Keyed {
+            pid,
+            value,
+            port,
+            key,
+        };
+        let wait = take_key(&mut store.by_koid, koid, keyed)?;
         unlist(&mut store.waits, wait.order);
         give_back(&mut store.by_koid, wait.port);
         Some(wait)
@@ -339,20 +350,13 @@ fn take_port(by_koid: &mut BTreeMap<Koid, Object>, koid: Koid, port: Koid) -> Op
 
 /// Takes out the earliest such wait at the object; its place stays.
 #[tactic(auto, using(crate::proofs::ByKoid::by_koid))]
-fn take_key(
-    by_koid: &mut BTreeMap<Koid, Object>,
-    koid: Koid,
-    pid: Pid,
-    value: HValue,
-    port: Koid,
-    key: u64,
-) -> Option<Watch>
-    ensures earliest { result
-        ≡ find (is_keyed_here pid value port key) (waits_in (get by_koid.old.entries koid)) }
-    ensures rest { by_koid.new.entries
-        ≡ update by_koid.old.entries koid (unwatched (is_keyed_here pid value port key)) }
+fn take_key(by_koid: &mut BTreeMap<Koid, Object>, koid: Koid, keyed: Keyed) -> Option<Watch>
+    ensures earliest { result ≡ find (is_keyed_here keyed.pid keyed.value keyed.port keyed.key)
+        (waits_in (get by_koid.old.entries koid)) }
+    ensures rest { by_koid.new.entries ≡ update by_koid.old.entries koid
+        (unwatched (is_keyed_here keyed.pid keyed.value keyed.port keyed.key)) }
 {
-    by_koid.get_mut(&koid)?.unwatch_key(pid, value, port, key)
+    by_koid.get_mut(&koid)?.unwatch_key(keyed)
 }
 
 /// Takes out the earliest wait at the object that holds; its place stays.

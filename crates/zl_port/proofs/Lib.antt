@@ -1,3 +1,6 @@
 pub mod Cancelled
-pub mod Counting
+pub mod InBucket
+pub mod InSlots
+pub mod Linking
 pub mod Queued
+pub mod Walking

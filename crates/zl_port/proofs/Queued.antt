@@ -1,62 +1,49 @@
 -- How a queue stays as it is stored.
-use Rattle.zl_rights.proofs.Common.{◌≡◌, ℕ, ◌+◌, ◌<◌, ◌≤◌, not, List, [], ◌∷◌, ◌++◌, length, filter, get_or, set, slice_index, arith, refl, sym, length-append}
+use Rattle.zl_rights.proofs.Common.{◌≡◌, ℕ, ◌+◌, ◌<◌, ◌^◌, true, not, List, [], ◌∷◌, ◌++◌, length, filter, arith, refl, ap, length-append, ◌∙◌}
 use Rattle.std.specs.Prelude.{◌-◌}
-use Rattle.std.proofs.lemmas.List.{get_or_read, length-set}
 use Rattle.std.proofs.lemmas.List.Filters.{length-filter_both}
-use Rattle.zl_rights.specs.World.{Packet, Source}
+use Rattle.zl_rights.specs.World.{Source}
 use Rattle.zl_port.specs.Packets.{is_from}
-use Rattle.zl_port.specs.Buckets.{bucket, bucket_of, with_count}
-use Rattle.zl_port.specs.Room.{IsQueue}
-use Rattle.zl_port.proofs.Counting.{all_stay, at_least, counted_in, counted_without, none_counted, same_buckets}
+use Rattle.zl_port.specs.Buckets.{bucket_of}
+use Rattle.zl_port.specs.Chains.{AreLinked, link_of, linked, packets_in, with_last}
+use Rattle.zl_port.specs.Room.{IsQueue, room_in}
+use Rattle.zl_port.specs.declared.slots.Slot.{Slot}
+use Rattle.zl_port.proofs.InSlots.{packets_more}
+use Rattle.zl_port.proofs.Linking.{linked_behind_all, same_buckets}
 
--- a new queue
-pub new_queue : (packets : List Packet) (room : ℕ) (counts : List ℕ) → packets ≡ [] → room ≡ 0 → counts ≡ [] → IsQueue packets room counts
-new_queue packets room counts no_packets no_room no_counts =
-    rw (no_packets, no_room, no_counts)
-    (record { enough = omega arith; small = omega arith; some = λ h. absurd (omega (arith, h)); counted = none_counted 0 })
+-- one packet more, behind the slots that a place was made for it at
+pub pushed : {slots made new : List Slot} {places places' front front' count number : ℕ} {last made_last left : List ℕ} (x y : Slot)
+    → IsQueue slots places front count last → length (packets_in slots) < room_in places
+    → packets_in made ≡ packets_in slots → front' + length made < 2 ^ 63 → AreLinked made front' made_last → length made_last ≡ length last
+    → x.there ≡ true → number ≡ front' + length made → y ≡ linked (link_of made_last (bucket_of (length made_last) x.packet)) x
+    → left ≡ with_last made_last (bucket_of (length made_last) x.packet) (number + 1)
+    → new ≡ made ++ y ∷ [] → places' ≡ places → IsQueue new places' front' (count + 1) left
+pushed {slots = slots} {made = made} {new = new} {number = number} {made_last = made_last}
+    x y is below packets numbers are buckets there is_number is_y is_left are_new same_places =
+    let one : length (packets_in new) ≡ length (packets_in slots) + 1 =
+    rw (are_new, packets_more made y (ap (λ s. s.there) is_y ∙ there), packets) (length-append (packets_in slots) (y.packet ∷ [])) in
+    let some : 0 < length made_last = omega (arith, below, buckets, is.some) in
+    record {
+      counted = omega (arith, is.counted, one);
+      enough = rw same_places (omega (arith, is.counted, below));
+      small = rw same_places is.small;
+      numbers = omega (arith, numbers, ap length are_new, length-append made (y ∷ []));
+      some = λ h. omega (arith, some, ap length is_left, same_buckets made_last (bucket_of (length made_last) x.packet) (number + 1));
+      linked = linked_behind_all x y some is_number is_y is_left are_new are;
+    }
 
--- one packet more
-pub pushed : (packets more : List Packet) (room room' : ℕ) (counts counts' : List ℕ) (x : Packet)
-    → IsQueue packets room counts → length packets < room
-    → more ≡ packets ++ x ∷ [] → room' ≡ room → counts' ≡ with_count (λ n. n + 1) counts (bucket_of (length counts) x) → IsQueue more room' counts'
-pushed packets more room room' counts counts' x is below are_more same_room are_counts =
-    rw (are_more, same_room, are_counts) (record {
-      enough = omega (arith, length-append packets (x ∷ []), below);
-      small = is.small;
-      some = λ h. rw (same_buckets (λ n. n + 1) counts (bucket_of (length counts) x)) (is.some h);
-      counted = counted_in counts packets x (is.some (omega (arith, below))) is.counted;
-    })
-
--- where those that a wait of the source gave with the key are looked for, and x is the count of their bucket
-module _ (packets : List Packet) (room : ℕ) (counts : List ℕ) (source : Source) (key n place x : ℕ) (is : IsQueue packets room counts)
-    (many : n ≡ length counts) (here : place ≡ bucket n source key) (within : place < n) (read : x ≡ get_or counts place x) where
-  -- the bucket is that of so many
-  bucket_is : bucket (length counts) source key ≡ place
-  bucket_is = rw (← many) (sym here)
-
-  -- x is its count
-  count_is : slice_index counts place ≡ x
-  count_is = sym (get_or_read counts place x (omega (arith, many, within)) read 0)
-
-  -- there are at most so many
-  pub at_most : length (filter (is_from source key) packets) ≤ x
-  at_most = omega (arith, rw (bucket_is, count_is) at (at_least counts packets source key (omega (arith, many, within)) is.counted))
-
-  -- where the count is 0 there are none
-  pub none_found : x ≡ 0 → 0 ≡ length (filter (is_from source key) packets)
-  none_found zero = omega (arith, at_most, zero)
-
-  -- and all stay
-  pub none_leaves : x ≡ 0 → packets ≡ filter (λ p. not (is_from source key p)) packets
-  none_leaves zero = sym (all_stay (is_from source key) packets (omega (arith, at_most, zero)))
-
-  -- where they have left
-  pub cancelled : (left : List Packet) (room' taken : ℕ) → left ≡ filter (λ p. not (is_from source key p)) packets
-      → taken ≡ length (filter (is_from source key) packets) → room' ≡ room → IsQueue left room' (set counts place (x - taken))
-  cancelled left room' taken are_left are_taken same_room =
-      rw (are_left, same_room) (record {
-        enough = omega (arith, is.enough, length-filter_both (is_from source key) (λ p. not (is_from source key p)) (λ p. refl) packets);
-        small = is.small;
-        some = λ h. rw (length-set counts place (x - taken)) (is.some h);
-        counted = rw (bucket_is, count_is) at (counted_without counts packets source key (omega (arith, many, within)) is.counted taken are_taken);
-      })
+-- the packets of waits with the source and the key have left
+pub cancelled : {slots left : List Slot} {places places' front count taken : ℕ} {last new_last : List ℕ} (source : Source) (key : ℕ)
+    → IsQueue slots places front count last → packets_in left ≡ filter (λ x. not (is_from source key x)) (packets_in slots)
+    → taken ≡ length (filter (is_from source key) (packets_in slots)) → AreLinked left front new_last
+    → length left ≡ length slots → length new_last ≡ length last → places' ≡ places → IsQueue left places' front (count - taken) new_last
+cancelled {slots} {left} source key is rest are_taken are long buckets same_places =
+    let both = length-filter_both (is_from source key) (λ x. not (is_from source key x)) (λ x. refl) (packets_in slots) in
+    record {
+      counted = omega (arith, is.counted, are_taken, ap length rest, both);
+      enough = rw same_places (omega (arith, is.enough));
+      small = rw same_places is.small;
+      numbers = omega (arith, is.numbers, long);
+      some = λ h. omega (arith, is.some (omega (arith, h, same_places)), buckets);
+      linked = are;
+    }

@@ -1,7 +1,6 @@
--- How the packets of waits at a port are counted, by buckets. No public clause cites this module.
-use Rattle.std.specs.Prelude.{◌≡◌, ℕ, ◌+◌, ◌*◌, ◌/◌, ◌%◌, ◌^◌, Bool, false, ◌==◌, List, Option, Some, None, bit_xor, slice_index, slice_set, length}
+-- In which bucket the packets of a wait lie. No public clause cites this module.
+use Rattle.std.specs.Prelude.{ℕ, ◌+◌, ◌*◌, ◌/◌, ◌%◌, ◌^◌, Bool, false, ◌==◌, Option, Some, None, bit_xor}
 use Rattle.std.specs.Prelude.{if◌then◌else◌}
-use Rattle.std.specs.List.{filter}
 use Rattle.zl_rights.specs.World.{Packet, Source}
 
 -- the high half of a word goes into its low half
@@ -33,12 +32,3 @@ is_bucket place (Some other) = place == other
 -- the packet lies in this one of so many buckets
 abbrev pub lies_in : ℕ → ℕ → Packet → Bool
 lies_in buckets place x = is_bucket place (bucket_of buckets x)
-
--- the counts, where that of one bucket has changed
-abbrev pub with_count : (ℕ → ℕ) → List ℕ → Option ℕ → List ℕ
-with_count change counts None = counts
-with_count change counts (Some place) = slice_set counts place (change (slice_index counts place))
-
--- each bucket's count is how many packets lie in it
-pub record AreCounted (counts : List ℕ) (packets : List Packet) : Type 0 where
-  pub each : (place : ℕ) → slice_index counts place ≡ length (filter (lies_in (length counts) place) packets)

@@ -1,3 +1,4 @@
 pub mod Buckets
+pub mod Chains
 pub mod Packets
 pub mod Room

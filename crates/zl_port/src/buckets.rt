@@ -1,5 +1,5 @@
-ghost use Rattle.std.specs.Prelude.{◌≡◌, ℕ, ◌+◌, ◌-◌, ◌^◌, ◌<◌, ◌≤◌, length, slice_index, IfSome};
-ghost use Rattle.zl_port.specs.Buckets.{bucket, bucket_of, folded, mixed, with_count};
+ghost use Rattle.std.specs.Prelude.{◌≡◌, ◌<◌, IfSome};
+ghost use Rattle.zl_port.specs.Buckets.{bucket, bucket_of, folded, mixed};
 
 use crate::packet::{Packet, PacketKind, Source};
 
@@ -35,7 +35,7 @@ pub(crate) fn bucket_for(buckets: usize, source: Source, key: u64) -> usize
 }
 
 /// The bucket of a packet, if a wait gave it.
-fn bucket_of_packet(buckets: usize, packet: &Packet) -> Option<usize>
+pub(crate) fn bucket_of_packet(buckets: usize, packet: &Packet) -> Option<usize>
     requires { 0 < buckets }
     ensures value { result ≡ bucket_of buckets packet.now }
     ensures within { IfSome result (λ place. place < buckets) }
@@ -47,31 +47,4 @@ fn bucket_of_packet(buckets: usize, packet: &Packet) -> Option<usize>
         return None;
     };
     Some(bucket_for(buckets, source, packet.key))
-}
-
-/// Counts one packet more.
-pub(crate) fn count_in(counts: &mut Vec<usize>, packet: &Packet)
-    requires some { 0 < length counts.old.items }
-    requires fits { (place : ℕ) → slice_index counts.old.items place < 2 ^ 63 }
-    ensures { counts.new.items ≡ with_count (λ n. n + 1) counts.old.items
-        (bucket_of (length counts.old.items) packet.now) }
-{
-    let Some(place) = bucket_of_packet(counts.len(), packet) else {
-        return;
-    };
-    counts[place] += 1;
-}
-
-/// Counts one packet less.
-pub(crate) fn count_out(counts: &mut Vec<usize>, packet: &Packet)
-    requires some { 0 < length counts.old.items }
-    requires counted { IfSome (bucket_of (length counts.old.items) packet.now)
-        (λ place. 0 < slice_index counts.old.items place) }
-    ensures { counts.new.items ≡ with_count (λ n. n - 1) counts.old.items
-        (bucket_of (length counts.old.items) packet.now) }
-{
-    let Some(place) = bucket_of_packet(counts.len(), packet) else {
-        return;
-    };
-    counts[place] -= 1;
 }

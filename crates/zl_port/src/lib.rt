@@ -10,6 +10,7 @@ mod buckets;
 mod packet;
 mod port;
 mod queue;
+mod slots;
 
 pub use packet::{Packet, PacketKind, Source};
 pub use port::{Port, QueueFault};

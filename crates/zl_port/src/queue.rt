@@ -1,35 +1,41 @@
-ghost use Rattle.std.specs.Prelude.{◌≡◌, ◌+◌, ◌-◌, ◌^◌, ◌<◌, ◌≤◌, [], ◌∷◌, ◌++◌, drop, filter, length, not, slice_get, IfOk, OnOk};
+ghost use Rattle.std.specs.Prelude.{◌≡◌, ◌+◌, ◌^◌, ◌<◌, ◌≤◌, [], ◌∷◌, ◌++◌, drop, filter, length, not, slice_get, OnOk};
 ghost use Rattle.zl_rights.specs.Signals.{is_empty};
 ghost use Rattle.zl_port.specs.Packets.{is_from};
-ghost use Rattle.std.specs.VecDeque.{deque_capacity};
-ghost use Rattle.zl_port.specs.Buckets.{AreCounted};
 
-use crate::buckets::{bucket_for, count_in, count_out};
+use crate::buckets::bucket_for;
 use crate::packet::{Packet, Source};
+use crate::slots::{Slot, link, link_anew, make_place, take_first, take_from};
 use std::alloc::{AllocError, Global};
 use std::collections::VecDeque;
 use std::marker::Model;
 
 /// Packets in order, the earliest first.
 ///
-/// Those of waits are counted in buckets by source and key, so that a cancellation looks at none
-/// where its bucket is empty.
+/// Those of waits are linked in buckets by source and key, so that a cancellation looks only at
+/// those of its bucket. It leaves empty places, for which there is half as much room again. They go
+/// at the front, or all at once where no place is left: then they are a third of all, so that each
+/// cancelled packet has paid for it.
 #[derive(Drop)]
 pub(crate) struct Queue {
-    packets: VecDeque<Packet>,
-    // How many packets of waits lie in each bucket. There are about as many buckets as places.
-    counts: Vec<usize>,
+    slots: VecDeque<Slot>,
+    // The number of the first slot.
+    front: usize,
+    // How many packets there are.
+    count: usize,
+    // The link to the last slot of each bucket. There are about as many buckets as places.
+    last: Vec<usize>,
 }
 
 impl Model for Queue {
     ghost use Rattle.std.specs.VecDeque.{deque_capacity};
-    ghost use Rattle.zl_port.specs.Room.{IsQueue, Queue as QueueValue};
+    ghost use Rattle.zl_port.specs.Chains.{packets_in};
+    ghost use Rattle.zl_port.specs.Room.{IsQueue, Queue as QueueValue, room_in};
 
     ghost Value = { QueueValue };
 
-    ghost view = { λ q. record { packets = q.packets.items; room = deque_capacity q.packets } };
+    ghost view = { λ q. record { packets = packets_in q.slots.items; room = room_in (deque_capacity q.slots) } };
 
-    ghost invariant = { λ q. IsQueue q.packets.items (deque_capacity q.packets) q.counts.items };
+    ghost invariant = { λ q. IsQueue q.slots.items (deque_capacity q.slots) q.front q.count q.last.items };
 }
 
 impl Queue {
@@ -39,8 +45,10 @@ impl Queue {
         ensures room { result.room ≡ 0 }
     {
         Queue {
-            packets: VecDeque::from_vec(Vec::new(alloc)),
-            counts: Vec::new(alloc),
+            slots: VecDeque::from_vec(Vec::new(alloc)),
+            front: 0,
+            count: 0,
+            last: Vec::new(alloc),
         }
     }
 
@@ -49,14 +57,14 @@ impl Queue {
         ensures value { result ≡ length self.now.packets }
         ensures within { result ≤ self.now.room }
     {
-        self.packets.len()
+        self.count
     }
 
     /// Whether there are none.
     pub(crate) fn is_empty(&self) -> bool
         ensures { result ≡ is_empty self.now.packets }
     {
-        self.packets.is_empty()
+        self.count == 0
     }
 
     /// How many packets there is room for.
@@ -64,7 +72,7 @@ impl Queue {
         ensures value { result ≡ self.now.room }
         ensures small { result < 2 ^ 63 }
     {
-        self.packets.capacity()
+        self.slots.capacity() - self.slots.capacity() / 3
     }
 
     /// Makes room for so many packets more.
@@ -75,11 +83,15 @@ impl Queue {
         ensures grown { self.old.room ≤ self.new.room }
         ensures small { self.new.room < 2 ^ 63 }
     {
-        let buckets = self.packets.len().saturating_add(more);
-        if self.counts.len() < buckets {
-            self.counts = counted(&self.packets, buckets)?;
+        let room = self.count.saturating_add(more);
+        let places = room.saturating_add(room / 2 + 1);
+        if self.last.len() < places {
+            let mut last = vec![in *self.slots.allocator(); 0; places]?;
+            link_anew(&mut self.slots, &mut last);
+            self.last = last;
+            self.front = 0;
         }
-        self.packets.reserve(more)
+        self.slots.reserve(places.saturating_sub(self.slots.len()))
     }
 
     /// Puts a packet behind all others, for which there has to be room. It takes no memory.
@@ -88,8 +100,15 @@ impl Queue {
         ensures packets { self.new.packets ≡ self.old.packets ++ packet ∷ [] }
         ensures room { self.new.room ≡ self.old.room }
     {
-        count_in(&mut self.counts, &packet);
-        self.packets.push_back_reserved(packet);
+        make_place(&mut self.slots, &mut self.last, &mut self.front);
+        let mut slot = Slot {
+            packet,
+            there: true,
+            before: 0,
+        };
+        link(&mut self.last, &mut slot, self.front + self.slots.len());
+        self.slots.push_back_reserved(slot);
+        self.count += 1;
     }
 
     /// Takes the first packet out, or nothing where there is none. It takes no memory.
@@ -98,8 +117,8 @@ impl Queue {
         ensures rest { self.new.packets ≡ drop 1 self.old.packets }
         ensures room { self.new.room ≡ self.old.room }
     {
-        let packet = self.packets.pop_front()?;
-        count_out(&mut self.counts, &packet);
+        let packet = take_first(&mut self.slots, &mut self.front)?;
+        self.count -= 1;
         Some(packet)
     }
 
@@ -110,39 +129,19 @@ impl Queue {
         ensures count { result ≡ length (filter (is_from source key) self.old.packets) }
         ensures room { self.new.room ≡ self.old.room }
     {
-        if self.counts.is_empty() {
+        if self.last.is_empty() {
             return 0;
         }
-        let place = bucket_for(self.counts.len(), source, key);
-        if self.counts[place] == 0 {
-            return 0;
-        }
-        let taken = take_from(&mut self.packets, source, key);
-        self.counts[place] -= taken;
+        let own = bucket_for(self.last.len(), source, key);
+        let taken = take_from(
+            &mut self.slots,
+            &mut self.last,
+            self.front,
+            own,
+            source,
+            key,
+        );
+        self.count -= taken;
         taken
     }
-}
-
-/// How many of the packets lie in each of so many buckets.
-fn counted(packets: &VecDeque<Packet>, buckets: usize) -> Result<Vec<usize>, AllocError>
-    requires { 0 < buckets }
-    ensures len { IfOk result (λ counts. length counts.items ≡ buckets) }
-    ensures counted { IfOk result (λ counts. AreCounted counts.items packets.now.items) }
-{
-    let mut counts = vec![in *packets.allocator(); 0; buckets]?;
-    for place in 0..packets.len() {
-        count_in(&mut counts, &packets[place]);
-    }
-    Ok(counts)
-}
-
-/// Takes out the packets with this key that waits of this source gave, and says how many they were.
-fn take_from(packets: &mut VecDeque<Packet>, source: Source, key: u64) -> usize
-    ensures rest { packets.new.items ≡ filter (λ x. not (is_from source key x)) packets.old.items }
-    ensures count { result ≡ length (filter (is_from source key) packets.old.items) }
-    ensures room { deque_capacity packets.new ≡ deque_capacity packets.old }
-{
-    let before = packets.len();
-    packets.retain(|packet| !packet.is_from(source, key));
-    before - packets.len()
 }

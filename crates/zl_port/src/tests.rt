@@ -107,6 +107,78 @@ fn a_cancellation_takes_the_packets_of_one_source_and_key(rt: HostRuntime) -> Re
     Ok(())
 }
 
+#[test]
+fn packets_go_at_the_front_in_the_middle_and_at_the_end(rt: HostRuntime) -> Result<(), Fail> {
+    let mut port = Port::new(rt.alloc());
+    for key in [1, 2, 3, 2, 4, 2] {
+        queue_wait(&mut port, signal(SOURCE, key))?;
+    }
+    assert_eq!(rt; port.cancel(SOURCE, 1), 1);
+    assert_eq!(rt; key_of(port.pop()), Some(2));
+    assert_eq!(rt; port.cancel(SOURCE, 2), 2);
+    assert_eq!(rt; port.cancel(SOURCE, 2), 0);
+    queue_wait(&mut port, signal(SOURCE, 2))?;
+    assert_eq!(rt; key_of(port.pop()), Some(3));
+    assert_eq!(rt; key_of(port.pop()), Some(4));
+    assert_eq!(rt; port.cancel(SOURCE, 4), 0);
+    assert_eq!(rt; port.cancel(SOURCE, 2), 1);
+    assert!(rt; !port.has_packet());
+    assert!(rt; port.pop().is_none());
+    assert!(rt; port.queue_user(7, 0).is_ok());
+    assert!(rt; port.has_packet());
+    assert_eq!(rt; key_of(port.pop()), Some(7));
+    assert!(rt; port.pop().is_none());
+    Ok(())
+}
+
+/// Where there is room for three packets there may be just two buckets, so two of them share one.
+#[test]
+fn one_of_three_is_cancelled(rt: HostRuntime) -> Result<(), Fail> {
+    for gone in 0..3 {
+        let mut port = Port::new(rt.alloc());
+        for number in 0..3 {
+            queue_wait(&mut port, signal(source_of(number), 10 + number))?;
+        }
+        assert_eq!(rt; port.cancel(source_of(gone), 10), usize::from(gone == 0));
+        assert_eq!(rt;
+            port.cancel(source_of(gone), 10 + gone),
+            usize::from(gone > 0)
+        );
+        queue_wait(&mut port, signal(source_of(gone), 20))?;
+        for number in 0..3 {
+            if number != gone {
+                assert_eq!(rt; key_of(port.pop()), Some(10 + number));
+            }
+        }
+        assert_eq!(rt; port.cancel(source_of(gone), 20), 1);
+        assert!(rt; port.pop().is_none());
+    }
+    Ok(())
+}
+
+/// Each packet gets a place that an earlier one has left: 200 are cancelled where room is for fewer.
+#[test]
+fn cancels_and_packets_take_turns(rt: HostRuntime) -> Result<(), Fail> {
+    let mut port = Port::new(rt.alloc());
+    for key in 0..40 {
+        queue_wait(&mut port, signal(SOURCE, key))?;
+    }
+    for key in 0..200 {
+        assert_eq!(rt; port.cancel(SOURCE, key + 20), 1);
+        assert_eq!(rt; port.cancel(SOURCE, key + 20), 0);
+        queue_wait(&mut port, signal(SOURCE, key + 40))?;
+    }
+    for key in 0..20 {
+        assert_eq!(rt; key_of(port.pop()), Some(key));
+    }
+    for key in 220..230 {
+        assert_eq!(rt; key_of(port.pop()), Some(key));
+        assert_eq!(rt; port.cancel(SOURCE, 459 - key), 1);
+    }
+    assert!(rt; port.pop().is_none());
+    Ok(())
+}
+
 /// Queues the packet of a call, and once more where there was no memory for it.
 fn queue_again(port: &mut Port, key: u64) -> bool {
     match port.queue_user(key, 0) {

@@ -1,6 +1,5 @@
 -- What a cancellation leaves of the packets.
 use Rattle.zl_rights.proofs.Common.{◌≡◌, ℕ, ◌≤◌, true, false, not, List, [], ◌∷◌, length, filter, refl, arith, nat_tests, eqb-true}
-use Rattle.std.specs.Prelude.{◌-◌}
 use Rattle.std.proofs.lemmas.List.Filters.{length-filter_both}
 use Rattle.zl_rights.specs.World.{Packet, Source}
 use Rattle.zl_port.specs.Packets.{is_from, is_user, user_count}
@@ -21,10 +20,6 @@ users_stay source key (x ∷ packets) = grind (arith, nat_tests, not_from source
 
 -- where the packets that a wait of the source gave with the key have left
 module _ (source : Source) (key : ℕ) (packets left : List Packet) (is : left ≡ filter (λ x. not (is_from source key x)) packets) where
-  -- so many have left
-  pub left_count : length packets - length left ≡ length (filter (is_from source key) packets)
-  left_count = rw is (omega (arith, length-filter_both (is_from source key) (λ x. not (is_from source key x)) (λ x. refl) packets))
-
   -- there is still room, and the packets of calls are counted
   pub still_room : (room reserved count : ℕ) → HasRoom packets room reserved count → HasRoom left room reserved count
   still_room room reserved count has = rw is (record {

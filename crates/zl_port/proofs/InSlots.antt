@@ -1,6 +1,6 @@
 -- Which packets lie in slots.
-use Rattle.zl_rights.proofs.Common.{◌≡◌, ℕ, zero, suc, ◌+◌, ◌<◌, ◌≤◌, Bool, true, false, not, List, [], ◌∷◌, ◌++◌, Option, Some, None, length, filter, get_or, set, cond, refl, arith, nat_tests}
-use Rattle.zl_rights.proofs.Common.{map-append, length-map, ap, sym, ◌∙◌}
+use Rattle.zl_rights.proofs.Common.{◌≡◌, ℕ, zero, suc, ◌+◌, ◌<◌, ◌≤◌, Bool, true, false, not, List, [], ◌∷◌, ◌++◌, Option, Some, None}
+use Rattle.zl_rights.proofs.Common.{length, filter, get_or, set, cond, refl, arith, nat_tests, map-append, length-map, ap, sym, ◌∙◌}
 use Rattle.std.proofs.lemmas.List.{get_or_read}
 use Rattle.std.proofs.lemmas.List.Elements.{filter-append}
 use Rattle.std.proofs.lemmas.List.Filters.{length-filter_both}
@@ -12,10 +12,6 @@ use Rattle.zl_port.specs.declared.slots.Slot.{Slot}
 -- an empty place has none
 pub none_first : (x : Slot) (rest : List Slot) → x.there ≡ false → packets_in (x ∷ rest) ≡ packets_in rest
 none_first x rest gone = rw gone refl
-
--- the first is that of the first slot, if it's there
-pub one_first : (x : Slot) (rest : List Slot) → x.there ≡ true → packets_in (x ∷ rest) ≡ x.packet ∷ packets_in rest
-one_first x rest there = rw there refl
 
 -- one more
 pub packets_more : (slots : List Slot) (x : Slot) → x.there ≡ true → packets_in (slots ++ x ∷ []) ≡ packets_in slots ++ x.packet ∷ []

@@ -1,8 +1,8 @@
 -- How slots stay linked by buckets.
 use Rattle.zl_rights.proofs.Common.{◌≡◌, ℕ, suc, ◌+◌, ◌<◌, ◌≤◌, Bool, true, false, List, [], ◌∷◌, ◌++◌, Option, Some, None, IfSome, length, set, slice_index}
-use Rattle.zl_rights.proofs.Common.{cond, inl, inr, refl, arith, eqb, eq-eqb, sym, ap, subst, ◌∙◌, length-append, length-take, replicate, take}
+use Rattle.zl_rights.proofs.Common.{cond, inl, inr, refl, arith, eqb, eq-eqb, sym, ap, subst, ◌∙◌, length-append, length-take, take}
 use Rattle.std.proofs.lemmas.Bool.{cases_eq, ne_eqb}
-use Rattle.std.proofs.lemmas.List.{get_or-set_same, get_or-set_other, length-set, get_or_append_left, get_or_push, get_or-replicate, take_more_set}
+use Rattle.std.proofs.lemmas.List.{get_or-set_same, get_or-set_other, length-set, get_or_append_left, get_or_push, take_more_set}
 use Rattle.zl_port.specs.Buckets.{bucket_of, is_bucket, lies_in}
 use Rattle.zl_port.specs.Chains.{AreLinked, LinkedIn, Leads, linked, link_of, no_slot, slot_at, with_last}
 use Rattle.zl_port.specs.declared.slots.Slot.{Slot}
@@ -206,11 +206,3 @@ pub linked_here : (slots : List Slot) {last left : List ℕ} {place : ℕ} (x y 
     → AreLinked (take place slots) 0 last → AreLinked (take (place + 1) (set slots place y)) 0 left
 linked_here slots {place = place} x y some within is is_left =
     linked_behind_all x y some (omega (arith, length-take place slots, within)) is is_left (take_more_set slots place y within)
-
--- no slots are linked
-pub none_linked : (n front : ℕ) → LinkedIn n [] front (replicate n 0)
-none_linked n front = record {
-  befores = λ own i inside. absurd (omega (arith, inside));
-  lasts = λ own inside. rw get_or-replicate
-      (record { below = omega arith; none_between = λ i low high. absurd (omega (arith, low, high)); in_bucket = λ i is. absurd (omega (arith, is)) });
-}

@@ -1,5 +1,6 @@
 -- How a cancellation goes from slot to slot of a bucket.
-use Rattle.zl_rights.proofs.Common.{◌≡◌, ℕ, ◌+◌, ◌-◌, ◌<◌, ◌≤◌, Bool, true, false, not, ◌&&◌, List, Option, Some, None, IfSome, filter, get_or, length, set, slice_index}
+use Rattle.zl_rights.proofs.Common.{◌≡◌, ℕ, ◌+◌, ◌-◌, ◌<◌, ◌≤◌, Bool, true, false, not, ◌&&◌, List, Option, Some, None, IfSome}
+use Rattle.zl_rights.proofs.Common.{filter, get_or, length, set, slice_index}
 use Rattle.zl_rights.proofs.Common.{inl, inr, refl, arith, sym, ap, subst, ◌∙◌, false≢true, cases_lt, ◌⊎◌}
 use Rattle.std.proofs.lemmas.Bool.{cases_eq}
 use Rattle.std.proofs.lemmas.List.{get_or-set_same, get_or_past, get_or_read, length-set}
@@ -22,11 +23,15 @@ abbrev pub number_above : List Slot → ℕ → Option ℕ → ℕ
 number_above slots front None = front + length slots
 number_above slots front (Some place) = front + place
 
+-- it is a slot of the bucket, if there is one
+abbrev pub IsAbove : ℕ → ℕ → List Slot → Option ℕ → Type 0
+IsAbove n own slots above = IfSome above (λ place. (place < length slots) × (lies_in n own (slot_at slots place).packet ≡ true))
+
 -- the slots from the next one on are done: none of them has a packet from a wait of the source with the key
 pub record Walks (n own : ℕ) (source : Source) (key front : ℕ) (slots : List Slot) (last : List ℕ) (above : Option ℕ) (next : ℕ) : Type 0 where
   pub linked : LinkedIn n slots front last
   pub done : (i : ℕ) → next ≤ front + i → (slot_at slots i).there ≡ true → is_from source key (slot_at slots i).packet ≡ false
-  pub above_is : IfSome above (λ place. (place < length slots) × (lies_in n own (slot_at slots place).packet ≡ true))
+  pub above_is : IsAbove n own slots above
   pub next_is : next ≡ link_above slots last own above
 
 -- there are as many slots
@@ -72,7 +77,7 @@ module _ {n own key front : ℕ} {source : Source} (own_is : own ≡ bucket n so
     place = next - 1 - front
 
     -- the slot above leads here
-    leads_here : (above : Option ℕ) → IfSome above (λ place. (place < length slots) × (lies_in n own (slot_at slots place).packet ≡ true))
+    leads_here : (above : Option ℕ) → IsAbove n own slots above
         → Leads n own slots front (link_above slots last own above) (number_above slots front above)
     leads_here None is = walks.linked.lasts own within
     leads_here (Some j) is = walks.linked.befores own j is.0 is.1
@@ -82,7 +87,7 @@ module _ {n own key front : ℕ} {source : Source} (own_is : own ≡ bucket n so
     leads = subst (λ l. Leads n own slots front l (number_above slots front above)) (sym walks.next_is) (leads_here above walks.above_is)
 
     -- no number above is too high
-    not_high : (above : Option ℕ) → IfSome above (λ place. (place < length slots) × (lies_in n own (slot_at slots place).packet ≡ true))
+    not_high : (above : Option ℕ) → IsAbove n own slots above
         → number_above slots front above ≤ front + length slots
     not_high None is = omega arith
     not_high (Some j) is = omega (arith, is.0)
@@ -102,10 +107,6 @@ module _ {n own key front : ℕ} {source : Source} (own_is : own ≡ bucket n so
     -- it leads to the last before it
     leads_on : Leads n own slots front (slot_at slots place).before (front + place)
     leads_on = walks.linked.befores own place inside lies_here
-
-    -- so the next number is less
-    pub nearer : (slot_at slots place).before < next
-    nearer = omega (arith, leads_on.below, ahead)
 
     -- those behind its link are done, but for itself
     done_on : (i : ℕ) → (slot_at slots place).before ≤ front + i → (i ≡ place → ⊥) → (slot_at slots i).there ≡ true
@@ -175,7 +176,7 @@ module _ {n own key front : ℕ} {source : Source} (own_is : own ≡ bucket n so
         (λ low there. absurd (false≢true there)) (λ i other low there. done_on i low other there)
 
     -- where the slot above gets its link
-    by_above : (above : Option ℕ) → IfSome above (λ place. (place < length slots) × (lies_in n own (slot_at slots place).packet ≡ true))
+    by_above : (above : Option ℕ) → IsAbove n own slots above
         → Leads n own without front (slot_at slots place).before (number_above slots front above)
         → (length last ≡ n)
         → Walks n own source key front (slots_above without above (slot_at slots place).before)

@@ -84,7 +84,7 @@ impl Queue {
         ensures small { self.new.room < 2 ^ 63 }
     {
         let room = self.count.saturating_add(more);
-        let places = room.saturating_add(room / 2 + 1);
+        let places = room.saturating_add(room / 2);
         if self.last.len() < places {
             let mut last = vec![in *self.slots.allocator(); 0; places]?;
             link_anew(&mut self.slots, &mut last);

@@ -131,7 +131,7 @@ fn packets_go_at_the_front_in_the_middle_and_at_the_end(rt: HostRuntime) -> Resu
     Ok(())
 }
 
-/// Where there is room for three packets there may be just two buckets, so two of them share one.
+/// The first room that is made is for one packet, so that all may share a bucket.
 #[test]
 fn one_of_three_is_cancelled(rt: HostRuntime) -> Result<(), Fail> {
     for gone in 0..3 {

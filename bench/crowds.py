@@ -281,8 +281,6 @@ def unstarted_closes(count):
 
 # A turn moves those that stand in the list behind its process.
 MOVED = {"most": 4, "why": "the list of those that are ready is moved"}
-# A cancel goes through the waits of its object, and through the packets of its port where some share a bucket with its own.
-SOUGHT = {"most": 5, "why": "a cancel goes through them"}
 KINDS = (
     Kind(dead_children, "a process of a watched job killed, while a handle to each is kept", "processes", FEW),
     Kind(dead_jobs, "a job of a watched job killed, while a handle to each is kept", "jobs", FEW),
@@ -291,12 +289,12 @@ KINDS = (
     Kind(waits_register, "a wait registered at an event, and a jump", "waits there"),
     Kind(waits_close, "a handle of an event copied and closed, and a jump", "waits there"),
     Kind(waits_signal, "another signal of an event set and cleared, and a jump", "waits there"),
-    Kind(waits_cancel, "a wait taken back by its key, the oldest first, and two steps", "waits by its handle", **SOUGHT),
-    Kind(waits_find, "a wait in the middle taken back by its key, and two steps", "waits by its handle", **SOUGHT),
-    Kind(waits_miss, "a wait looked for by a key that none has, and a jump", "waits by the handle", **SOUGHT),
-    Kind(packets_find, "a packet in the middle taken back by its key, and two steps", "packets of its handle", **SOUGHT),
-    Kind(packets_miss, "a packet looked for by a key that none has, and a jump", "packets of the handle", **SOUGHT),
-    Kind(packets_cancel, "a packet looked for by a handle that has none, and a jump", "packets of another one", **SOUGHT),
+    Kind(waits_cancel, "a wait taken back by its key, the oldest first, and two steps", "waits by its handle"),
+    Kind(waits_find, "a wait in the middle taken back by its key, and two steps", "waits by its handle"),
+    Kind(waits_miss, "a wait looked for by a key that none has, and a jump", "waits by the handle"),
+    Kind(packets_find, "a packet in the middle taken back by its key, and two steps", "packets of its handle"),
+    Kind(packets_miss, "a packet looked for by a key that none has, and a jump", "packets of the handle"),
+    Kind(packets_cancel, "a packet looked for by a handle that has none, and a jump", "packets of another one"),
     Kind(blocked_signal, "another signal of an event set and cleared, and a jump", "processes blocked there"),
     Kind(woken, "a process woken with all others by one signal", "processes", most=4, why="each leaves the list of the blocked"),
     Kind(ready_turns, "a turn of the one that is ready longest", "ready processes", **MOVED),

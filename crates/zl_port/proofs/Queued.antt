@@ -11,7 +11,7 @@ use Rattle.zl_port.specs.declared.slots.Slot.{Slot}
 use Rattle.zl_port.proofs.InSlots.{packets_more}
 use Rattle.zl_port.proofs.Linking.{linked_behind_all, same_buckets}
 
--- one packet more, behind the slots that a place was made for it at
+-- one packet more, for which a place was made behind all slots
 pub pushed : {slots made new : List Slot} {places places' front front' count number : ℕ} {last made_last left : List ℕ} (x y : Slot)
     → IsQueue slots places front count last → length (packets_in slots) < room_in places
     → packets_in made ≡ packets_in slots → front' + length made < 2 ^ 63 → AreLinked made front' made_last → length made_last ≡ length last

@@ -9,8 +9,6 @@
 #![tactic(auto)]
 
 #[cfg(test)]
-mod crowd_order_tests;
-#[cfg(test)]
 mod crowd_tests;
 #[cfg(test)]
 mod flight_tests;

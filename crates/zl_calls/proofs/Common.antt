@@ -85,7 +85,7 @@ pub use Rattle.zl_calls.specs.calls.Process.{Drained, Ends, none_left as none_dr
 pub use Rattle.zl_calls.specs.calls.Reading.{CameFrom, ChanReadDoes, InsertsEach, IsFaultBy, ReadsMessage, front_at, front_by, front_in, read_into, told_read}
 pub use Rattle.zl_calls.specs.calls.Reading.{sizes_into, told_slots, told_unread, triple_of}
 pub use Rattle.zl_calls.specs.calls.Task.{ClosesAllEnded, ClosesEnded, ClosesHandle, CreatesProcess, EndsOrAnswers, Enters, IsCallerStill, IsCreatedAt, IsFound}
-pub use Rattle.zl_calls.specs.calls.Task.{IsReachedBy, KillsNamed, KillsTask, Parts, ProcessCreateDoes, ProcessStartDoes, StartsProcess, TaskKillDoes}
+pub use Rattle.zl_calls.specs.calls.Task.{IsReachedBy, KillsNamed, KillsTask, Reach, ProcessCreateDoes, ProcessStartDoes, StartsProcess, TaskKillDoes}
 pub use Rattle.zl_calls.specs.calls.Task.{child_refusal, create_refusal, create_refusal_of, ended_if, ended_within, ending_of, is_over, kill_refusal, lives_on}
 pub use Rattle.zl_calls.specs.calls.Task.{needs_more, one_more, parts, process_at, start_refusal, told_unless_over}
 pub use Rattle.zl_calls.specs.declared.boot.Made.{Made}

@@ -1,4 +1,5 @@
 -- What calls do over the parts of the world: those that reach other processes than their caller, process_create, process_start and task_kill.
+pub mod Unchanged
 pub mod ReachParts
 pub mod ReachSteps
 pub mod Creating

@@ -10,14 +10,14 @@ use Rattle.zl_calls.specs.Acted.{Acted}
 use Rattle.zl_calls.specs.Policed.{Policed, verdict_on}
 use Rattle.zl_calls.specs.World.{CallsNext}
 use Rattle.zl_calls.specs.calls.Answer.{Told, no_value, one_value, told_by}
-use Rattle.zl_calls.specs.calls.Task.{Parts, ProcessCreateDoes, ProcessStartDoes, TaskKillDoes, with_caller}
+use Rattle.zl_calls.specs.calls.Task.{Reach, ProcessCreateDoes, ProcessStartDoes, TaskKillDoes, with_caller}
 use Rattle.zl_calls.specs.declared.process.Process.{Process}
 use Rattle.zl_calls.specs.declared.process.State.TheVariants as state
 
 -- ---- calls that reach other processes
 
 -- the caller has what it is told in the registers of the site, and nothing else has changed
-pub record IsToldIn (s : Site) (place : ℕ) (told : Told) (all all2 : Parts) : Type 0 where
+pub record IsToldIn (s : Site) (place : ℕ) (told : Told) (all all2 : Reach) : Type 0 where
   pub caller : Process
   pub is_there : slice_get all.processes place ≡ Some caller
   pub processes : all2.processes ≡ with_caller all.processes place (record caller { cpu = cpu_answered s told.status told.values caller.cpu })
@@ -25,15 +25,15 @@ pub record IsToldIn (s : Site) (place : ℕ) (told : Told) (all all2 : Parts) : 
   pub blocked : all2.blocked ≡ all.blocked
 
 -- the call does so, and its caller is told the answer
-pub record IsAnsweredIn {A : Type 0} (told : A → Told) (Does : Parts → A → Parts → Type 0) (s : Site) (place : ℕ) (all : Parts) (o : Outcome) (all2 : Parts) : Type 0 where
+pub record IsAnsweredIn {A : Type 0} (told : A → Told) (Does : Reach → A → Reach → Type 0) (s : Site) (place : ℕ) (all : Reach) (o : Outcome) (all2 : Reach) : Type 0 where
   pub answer : A
-  pub between : Parts
+  pub between : Reach
   pub does : Does all answer between
   pub ends : o ≡ outcome.Answered (told answer).status
   pub is_told : IsToldIn s place (told answer) between all2
 
 -- the call did so, and its caller is among those that it ended
-pub record EndsCaller (Does : Parts → Parts → Type 0) (place : ℕ) (all : Parts) (o : Outcome) (all2 : Parts) : Type 0 where
+pub record EndsCaller (Does : Reach → Reach → Type 0) (place : ℕ) (all : Reach) (o : Outcome) (all2 : Reach) : Type 0 where
   pub caller : Process
   pub code : ℤ
   pub does : Does all all2
@@ -42,7 +42,7 @@ pub record EndsCaller (Does : Parts → Parts → Type 0) (place : ℕ) (all : P
   pub ends : o ≡ outcome.Ended code
 
 -- what a call does that reaches other processes
-pub data Reaches (lib : Library) (place : ℕ) (caller : Process) (s : Site) (all : Parts) (o : Outcome) (all2 : Parts) : Type 0 where
+pub data Reaches (lib : Library) (place : ℕ) (caller : Process) (s : Site) (all : Reach) (o : Outcome) (all2 : Reach) : Type 0 where
   creates_process : (job program : ℕ) → s.request ≡ process_create job program
       → IsAnsweredIn (told_by one_value) (ProcessCreateDoes lib place job program caller) s place all o all2 → Reaches lib place caller s all o all2
   starts : (process h word : ℕ) → s.request ≡ process_start process h word
@@ -64,12 +64,12 @@ is_reaching _ = false
 -- ---- any call
 
 -- of the processes the caller alone has changed, and none left the list of the blocked
-pub record IsAlone (all : Parts) (place : ℕ) (p2 : Process) (all2 : Parts) : Type 0 where
+pub record IsAlone (all : Reach) (place : ℕ) (p2 : Process) (all2 : Reach) : Type 0 where
   pub processes : all2.processes ≡ with_caller all.processes place p2
   pub blocked : all2.blocked ≡ all.blocked
 
 -- the call of the site is ended by policy, or else it is done
-pub data CallActs (lib : Library) (place : ℕ) (caller : Process) (s : Site) (all : Parts) (o : Outcome) (all2 : Parts) : Type 0 where
+pub data CallActs (lib : Library) (place : ℕ) (caller : Process) (s : Site) (all : Reach) (o : Outcome) (all2 : Reach) : Type 0 where
   policed : (p2 : Process) → IsAlone all place p2 all2 → Policed s caller all.objects o p2 all2.objects → CallActs lib place caller s all o all2
   reaches : verdict_on caller.table.entries all.objects.objects caller.pid s.request ≡ None
       → Reaches lib place caller s all o all2 → CallActs lib place caller s all o all2
@@ -77,7 +77,7 @@ pub data CallActs (lib : Library) (place : ℕ) (caller : Process) (s : Site) (a
       → IsAlone all place p2 all2 → Acted (Some s) caller all.objects o p2 all2.objects → CallActs lib place caller s all o all2
 
 -- the call that stands next for the caller, at this place, is done so, and has this name
-pub record CalledAmong (lib : Library) (place : ℕ) (caller : Process) (all : Parts) (name : CallName) (o : Outcome) (all2 : Parts) : Type 0 where
+pub record CalledAmong (lib : Library) (place : ℕ) (caller : Process) (all : Reach) (name : CallName) (o : Outcome) (all2 : Reach) : Type 0 where
   pub call : CallInstr
   pub next : CallsNext lib caller call
   pub named : name ≡ call.name

@@ -19,133 +19,149 @@ use crate::calls::handle::{close, dup, handle_info, replace};
 use crate::calls::job::{job_create, job_set_policy};
 use crate::calls::kill::task_kill;
 use crate::calls::port::{port_cancel, port_create, port_poll, port_queue, port_wait};
-use crate::calls::process::{end, process_create, process_start, signed_word};
+use crate::calls::process::{NewProcess, StartOf, end, process_create, process_start, signed_word};
 use crate::calls::wait::{wait_async, wait_one, wait_poll};
 use crate::policy::by_policy;
 use crate::process::{Process, State};
 use crate::processes::Processes;
+use crate::step::taken::Taken;
 use std::alloc::Global;
 use zl_code::{CallInstr, CallName, Outcome, Register};
 use zl_interp::Library;
 use zl_objects::Objects;
 use zl_rights::{Pid, Status};
 
-/// Does the call of a checked program, as `do_call` does.
-// Apart from the loop over turns, in which the way of raw programs stands.
-#[inline(never)]
-pub fn do_sure(
-    alloc: Global,
-    library: &Library,
-    processes: &mut Processes,
-    objects: &mut Objects,
-    blocked: &mut Vec<Pid>,
-    place: usize,
-    call: &CallInstr,
-) -> Outcome
-    requires may { MayCall (parts_in processes.old objects.old blocked.old) place }
-    requires there { AtPlace processes.old place (λ caller.
-        IsSome (site_of call.now caller.cpu)) }
-    requires own { AtPlace processes.old place (λ caller.
-        OwnWaits caller.pid caller.table.entries objects.old) }
-    requires counter { AtPlace processes.old place (λ caller. caller.cpu.counter < 2 ^ 32) }
-    requires sure { AtPlace processes.old place (λ caller.
-        IsSure caller objects.old (site_of call.now caller.cpu)) }
-    ensures acts { AtPlace processes.old place (λ caller.
-        IsReachedBy (site_of call.now caller.cpu) (λ s. CallActs library.now place caller s
-        (parts_in processes.old objects.old blocked.old) result
-        (parts_in processes.new objects.new blocked.new))) }
-    ensures room { KeepsRoom processes.old blocked.old processes.new blocked.new }
-{
-    do_call::<false>(alloc, library, processes, objects, blocked, place, call)
+/// What a step can reach: every process ever made, the objects, and what is listed beside them.
+#[derive(Drop)]
+pub struct Parts {
+    pub processes: Processes,
+    pub objects: Objects,
+    // The processes that are blocked, the longest blocked first. There is room for each process, so
+    // that none takes memory to block.
+    pub blocked: Vec<Pid>,
+    // What the last call took, made once as each step would fill it with zeros.
+    pub taken: Taken,
 }
 
-/// Does the call of the process at this place, whose memory is there: it ends as the policy of the
-/// process's job says, if that keeps it from being done.
-#[inline(always)]
-pub fn do_call<const TESTED: bool>(
-    alloc: Global,
-    library: &Library,
-    processes: &mut Processes,
-    objects: &mut Objects,
-    blocked: &mut Vec<Pid>,
-    place: usize,
-    call: &CallInstr,
-) -> Outcome
-    requires may { MayCall (parts_in processes.old objects.old blocked.old) place }
-    requires there { AtPlace processes.old place (λ caller.
-        IsSome (site_of call.now caller.cpu)) }
-    requires own { AtPlace processes.old place (λ caller.
-        OwnWaits caller.pid caller.table.entries objects.old) }
-    requires counter { AtPlace processes.old place (λ caller. caller.cpu.counter < 2 ^ 32) }
-    requires sure { TESTED ≡ false → AtPlace processes.old place (λ caller.
-        IsSure caller objects.old (site_of call.now caller.cpu)) }
-    ensures acts { AtPlace processes.old place (λ caller.
-        IsReachedBy (site_of call.now caller.cpu) (λ s. CallActs library.now place caller s
-        (parts_in processes.old objects.old blocked.old) result
-        (parts_in processes.new objects.new blocked.new))) }
-    ensures room { KeepsRoom processes.old blocked.old processes.new blocked.new }
-{
-    if let Some(outcome) = by_policy::<TESTED>(alloc, &mut processes.list[place], objects, call) {
-        return outcome;
+impl Parts {
+    /// Does the call of a checked program, as `call` does.
+    // Apart from the loop over turns, in which the way of raw programs stands.
+    #[inline(never)]
+    pub fn call_checked(
+        &mut self,
+        alloc: Global,
+        library: &Library,
+        place: usize,
+        call: &CallInstr,
+    ) -> Outcome
+        requires may { MayCall (parts_in self.old) place }
+        requires there { AtPlace self.old.processes place (λ caller.
+            IsSome (site_of call.now caller.cpu)) }
+        requires own { AtPlace self.old.processes place (λ caller.
+            OwnWaits caller.pid caller.table.entries self.old.objects) }
+        requires counter { AtPlace self.old.processes place (λ caller.
+            caller.cpu.counter < 2 ^ 32) }
+        requires sure { AtPlace self.old.processes place (λ caller.
+            IsSure caller self.old.objects (site_of call.now caller.cpu)) }
+        ensures acts { AtPlace self.old.processes place (λ caller.
+            IsReachedBy (site_of call.now caller.cpu) (λ s. CallActs library.now place caller s
+            (parts_in self.old) result (parts_in self.new))) }
+        ensures room { KeepsRoom self.old self.new }
+        ensures taken { self.new.taken ≡ self.old.taken }
+    {
+        self.call::<false>(alloc, library, place, call)
     }
-    if let Some(outcome) = reach::<TESTED>(
-        alloc, library, processes, objects, blocked, place, call,
-    ) {
-        return outcome;
-    }
-    act::<TESTED>(alloc, &mut processes.list[place], objects, call)
-}
 
-/// Does the call of the process at this place, if it is one that reaches other processes.
-#[inline(always)]
-#[tactic(auto, unfolding(zl_code::specs::Request::site_of))]
-fn reach<const TESTED: bool>(
-    alloc: Global,
-    library: &Library,
-    processes: &mut Processes,
-    objects: &mut Objects,
-    blocked: &mut Vec<Pid>,
-    place: usize,
-    call: &CallInstr,
-) -> Option<Outcome>
-    requires may { MayCall (parts_in processes.old objects.old blocked.old) place }
-    requires counter { AtPlace processes.old place (λ caller. caller.cpu.counter < 2 ^ 32) }
-    requires sure { TESTED ≡ false → AtPlace processes.old place (λ caller.
-        IsFaultless caller.table.entries (site_of call.now caller.cpu)) }
-    ensures reached { IfSome result (λ o. AtPlace processes.old place (λ caller.
-        IsReachedBy (site_of call.now caller.cpu) (λ s. Reaches library.now place caller s
-        (parts_in processes.old objects.old blocked.old) o
-        (parts_in processes.new objects.new blocked.new)))) }
-    ensures missing { IfNone result (AtPlace processes.old place (λ caller.
-        IfSome (site_of call.now caller.cpu) (λ s. is_reaching s.request ≡ false))) }
-    ensures room { KeepsRoom processes.old blocked.old processes.new blocked.new }
-    ensures same_processes { IfNone result (processes.new.list.items ≡ processes.old.list.items) }
-    ensures same_objects { IfNone result (objects.new ≡ objects.old) }
-    ensures same_blocked { IfNone result (blocked.new.items ≡ blocked.old.items) }
-{
-    let [a, b, c, d, ..] = call.registers;
-    let cpu = &processes.list[place].cpu;
-    match call.name {
-        CallName::ProcessCreate => {
-            let (job, program) = (cpu.register(b), cpu.register(c));
-            let made = process_create::<TESTED>(
-                alloc, library, processes, objects, blocked, place, job, program,
-            );
-            Some(processes.list[place].answer_made(a, d, made))
+    /// Does the call of the process at this place, whose memory is there: it ends as the policy of the
+    /// process's job says, if that keeps it from being done.
+    #[inline(always)]
+    pub fn call<const TESTED: bool>(
+        &mut self,
+        alloc: Global,
+        library: &Library,
+        place: usize,
+        call: &CallInstr,
+    ) -> Outcome
+        requires may { MayCall (parts_in self.old) place }
+        requires there { AtPlace self.old.processes place (λ caller.
+            IsSome (site_of call.now caller.cpu)) }
+        requires own { AtPlace self.old.processes place (λ caller.
+            OwnWaits caller.pid caller.table.entries self.old.objects) }
+        requires counter { AtPlace self.old.processes place (λ caller.
+            caller.cpu.counter < 2 ^ 32) }
+        requires sure { TESTED ≡ false → AtPlace self.old.processes place (λ caller.
+            IsSure caller self.old.objects (site_of call.now caller.cpu)) }
+        ensures acts { AtPlace self.old.processes place (λ caller.
+            IsReachedBy (site_of call.now caller.cpu) (λ s. CallActs library.now place caller s
+            (parts_in self.old) result (parts_in self.new))) }
+        ensures room { KeepsRoom self.old self.new }
+        ensures taken { self.new.taken ≡ self.old.taken }
+    {
+        let caller = &mut self.processes.list[place];
+        if let Some(outcome) = by_policy::<TESTED>(alloc, caller, &mut self.objects, call) {
+            return outcome;
         }
-        CallName::ProcessStart => {
-            let (process, handle, word) = (cpu.register(b), cpu.register(c), cpu.register(d));
-            let answer = process_start::<TESTED>(
-                library, processes, objects, place, process, handle, word,
-            );
-            Some(answer_taking(&mut processes.list[place], a, c, answer))
+        if let Some(outcome) = self.reach::<TESTED>(alloc, library, place, call) {
+            return outcome;
         }
-        CallName::TaskKill => {
-            let task = cpu.register(b);
-            let answer = task_kill::<TESTED>(alloc, processes, objects, blocked, place, task);
-            Some(answer_unless_over(&mut processes.list[place], a, answer))
+        act_alone::<TESTED>(
+            alloc,
+            &mut self.processes.list[place],
+            &mut self.objects,
+            call,
+        )
+    }
+
+    /// Does the call of the process at this place, if it is one that reaches other processes.
+    #[inline(always)]
+    #[tactic(auto, unfolding(zl_code::specs::Request::site_of))]
+    fn reach<const TESTED: bool>(
+        &mut self,
+        alloc: Global,
+        library: &Library,
+        place: usize,
+        call: &CallInstr,
+    ) -> Option<Outcome>
+        requires may { MayCall (parts_in self.old) place }
+        requires counter { AtPlace self.old.processes place (λ caller.
+            caller.cpu.counter < 2 ^ 32) }
+        requires sure { TESTED ≡ false → AtPlace self.old.processes place (λ caller.
+            IsFaultless caller.table.entries (site_of call.now caller.cpu)) }
+        ensures reached { IfSome result (λ o. AtPlace self.old.processes place (λ caller.
+            IsReachedBy (site_of call.now caller.cpu) (λ s. Reaches library.now place caller s
+            (parts_in self.old) o (parts_in self.new)))) }
+        ensures missing { IfNone result (AtPlace self.old.processes place (λ caller.
+            IfSome (site_of call.now caller.cpu) (λ s. is_reaching s.request ≡ false))) }
+        ensures room { KeepsRoom self.old self.new }
+        ensures taken { self.new.taken ≡ self.old.taken }
+        ensures unchanged { IfNone result (self.new ≡ self.old) }
+    {
+        let [a, b, c, d, ..] = call.registers;
+        let cpu = &self.processes.list[place].cpu;
+        match call.name {
+            CallName::ProcessCreate => {
+                let (job, program) = (cpu.register(b), cpu.register(c));
+                let new = NewProcess { job, program };
+                let made = process_create::<TESTED>(alloc, library, self, place, new);
+                Some(self.processes.list[place].answer_made(a, d, made))
+            }
+            CallName::ProcessStart => {
+                let (process, handle, word) = (cpu.register(b), cpu.register(c), cpu.register(d));
+                let start = StartOf {
+                    process,
+                    handle,
+                    word,
+                };
+                let answer = process_start::<TESTED>(library, self, place, start);
+                Some(answer_taking(&mut self.processes.list[place], a, c, answer))
+            }
+            CallName::TaskKill => {
+                let task = cpu.register(b);
+                let answer = task_kill::<TESTED>(alloc, self, place, task);
+                Some(answer_unless_over(&mut self.processes.list[place], a, answer))
+            }
+            _ => None,
         }
-        _ => None,
     }
 }
 
@@ -180,7 +196,7 @@ fn answer_unless_over(caller: &mut Process, status: Register, answer: Result<(),
 /// Does the call, whose memory is there, and which reaches no other process than its caller.
 #[inline(always)]
 #[tactic(auto, unfolding(zl_code::specs::Request::site_of))]
-fn act<const TESTED: bool>(
+fn act_alone<const TESTED: bool>(
     alloc: Global,
     process: &mut Process,
     objects: &mut Objects,

@@ -8,7 +8,7 @@ ghost use Rattle.zl_code.specs.Request.{site_of};
 ghost use Rattle.zl_code.specs.Steps.{IsStuck, Moves};
 ghost use Rattle.zl_rights.specs.Signals.{is_empty, is_ready, state_passes};
 ghost use Rattle.zl_calls.specs.Reaching.{CalledAmong};
-ghost use Rattle.zl_calls.specs.Calling.{AtPlace, KeepsRoom, MayCall, OwnWaits, left_in, parts_in, world_in};
+ghost use Rattle.zl_calls.specs.Calling.{AtPlace, HasRoom, KeepsRoom, MayCall, OwnWaits, left_in, parts_in, world_in};
 ghost use Rattle.zl_calls.specs.Acting.{DoesNext, StaysAwake, is_local as tells_local};
 ghost use Rattle.zl_calls.specs.Own.{DoesOwn, own_beside};
 ghost use Rattle.zl_calls.specs.Blocked.{AreBlocked, AreLeft};
@@ -27,9 +27,8 @@ pub mod leaving;
 pub mod taken;
 
 use crate::calls::process::end;
-use crate::parts::{do_call, do_sure};
+use crate::parts::Parts;
 use crate::process::Process;
-use crate::processes::Processes;
 use crate::step::leaving::leave;
 use crate::step::taken::{Taken, is_kill, is_start};
 use crate::waits::end_behind;
@@ -68,77 +67,121 @@ pub fn next_name(library: &Library, process: &Process) -> Option<CallName>
     Some(call.name)
 }
 
-/// Does the next instruction of the process, if the process is ready, and tells the step. Waits have
-/// ended with their handles, none fires and no process wakes yet, and one that blocks isn't in the list
-/// of the blocked yet; those that were killed aren't there any more. A process that was never started
-/// is gone with its object.
-// Part of each turn of a run, as is what it calls below.
-#[inline(always)]
-pub fn act_for(
-    alloc: Global,
-    library: &Library,
-    processes: &mut Processes,
-    objects: &mut Objects,
-    blocked: &mut Vec<Pid>,
-    taken: &mut Taken,
-    pid: Pid,
-) -> Option<TraceItem>
-    requires consistent { IsConsistent processes.old.list.items objects.old }
-    requires list { AreBlocked processes.old.list.items blocked.old.items }
-    requires sound { IsSound (world_in processes.old objects.old blocked.old) }
-    requires verified { IsVerified library.now }
-    requires covered { IsCovered library.now (world_in processes.old objects.old blocked.old) }
-    requires room { length processes.old.list.items ≤ vec_capacity blocked.old }
-    ensures acts { IfSome result (λ item. DoesNext library.now
-        (world_in processes.old objects.old blocked.old) pid item
-        (left_in processes.new objects.new (then_blocked pid item blocked.new.items))) }
-    ensures own { IfSome result (λ item. DoesOwn library.now
-        (own_beside processes.old.list.items objects.old blocked.old.items) pid item
-        (left_in processes.new objects.new (then_blocked pid item blocked.new.items))
-        processes.new.list.items) }
-    ensures quiet { IfSome result (λ item. IsTrue (tells_local item) → StaysAwake
-        (world_in processes.old objects.old blocked.old)
-        (left_in processes.new objects.new blocked.new.items)
-        (world_in processes.new objects.new blocked.new)) }
-    ensures unheld { IfSome result (λ item. tells_local item ≡ false → EndsUnheld
-        processes.new.list.items objects.new objects.new) }
-    ensures list { IfSome result (λ item.
-        AreBlocked processes.new.list.items (then_blocked pid item blocked.new.items)) }
-    ensures fewer { IfSome result (λ item. AreLeft blocked.old.items blocked.new.items) }
-    ensures asleep { IfSome result (λ item. KeepSleepers objects.old objects.new) }
-    ensures child { IfSome result (λ item. NotesStarted library.now
-        (world_in processes.old objects.old blocked.old) pid item taken.new) }
-    ensures task { IfSome result (λ item. TellsKilled library.now
-        (world_in processes.old objects.old blocked.old) pid (Some taken.new.killed)) }
-    ensures consistent { IsConsistent processes.new.list.items objects.new }
-    ensures room { length processes.new.list.items ≤ vec_capacity blocked.new }
-    ensures not_ready { IfNone result
-        (state_passes is_ready (get (map process_entry processes.old.list.items) pid) ≡ false) }
-    ensures same_processes { IfNone result (processes.new.list.items ≡ processes.old.list.items) }
-    ensures same_objects { IfNone result (objects.new ≡ objects.old) }
-    ensures same_blocked { IfNone result (blocked.new.items ≡ blocked.old.items) }
-{
-    let place = processes.place_of(pid)?;
-    if !processes.list[place].is_ready() {
-        return None;
+impl Parts {
+    /// Does the next instruction of the process, if the process is ready, and tells the step. Waits have
+    /// ended with their handles, none fires and no process wakes yet, and one that blocks isn't in the list
+    /// of the blocked yet; those that were killed aren't there any more. A process that was never started
+    /// is gone with its object.
+    // Part of each turn of a run, as is what it calls below.
+    #[inline(always)]
+    pub fn act(&mut self, alloc: Global, library: &Library, pid: Pid) -> Option<TraceItem>
+        requires consistent { IsConsistent self.old.processes.list.items self.old.objects }
+        requires list { AreBlocked self.old.processes.list.items self.old.blocked.items }
+        requires sound { IsSound (world_in self.old) }
+        requires verified { IsVerified library.now }
+        requires covered { IsCovered library.now (world_in self.old) }
+        requires room { HasRoom self.old }
+        ensures acts { IfSome result (λ item. DoesNext library.now (world_in self.old) pid item
+            (left_in self.new (then_blocked pid item self.new.blocked.items))) }
+        ensures own { IfSome result (λ item. DoesOwn library.now (own_beside
+            self.old.processes.list.items self.old.objects self.old.blocked.items) pid item
+            (left_in self.new (then_blocked pid item self.new.blocked.items))
+            self.new.processes.list.items) }
+        ensures quiet { IfSome result (λ item. IsTrue (tells_local item) → StaysAwake
+            (world_in self.old) (left_in self.new self.new.blocked.items) (world_in self.new)) }
+        ensures unheld { IfSome result (λ item. tells_local item ≡ false → EndsUnheld
+            self.new.processes.list.items self.new.objects self.new.objects) }
+        ensures list { IfSome result (λ item. AreBlocked
+            self.new.processes.list.items (then_blocked pid item self.new.blocked.items)) }
+        ensures fewer { IfSome result (λ item.
+            AreLeft self.old.blocked.items self.new.blocked.items) }
+        ensures asleep { IfSome result (λ item. KeepSleepers self.old.objects self.new.objects) }
+        ensures child { IfSome result (λ item.
+            NotesStarted library.now (world_in self.old) pid item self.new.taken) }
+        ensures task { IfSome result (λ item.
+            TellsKilled library.now (world_in self.old) pid (Some self.new.taken.killed)) }
+        ensures consistent { IsConsistent self.new.processes.list.items self.new.objects }
+        ensures room { HasRoom self.new }
+        ensures not_ready { IfNone result (state_passes is_ready
+            (get (map process_entry self.old.processes.list.items) pid) ≡ false) }
+        ensures unchanged { IfNone result (self.new ≡ self.old) }
+    {
+        let place = self.processes.place_of(pid)?;
+        if !self.processes.list[place].is_ready() {
+            return None;
+        }
+        if let Some((call, outcome)) = self.call_next(alloc, library, place) {
+            let item = TraceItem::Call { pid, call, outcome };
+            leave(&mut self.processes, &self.objects);
+            end_behind(&self.taken, &self.processes, &mut self.objects, pid);
+            return Some(item);
+        }
+        let process = &mut self.processes.list[place];
+        if let Some(()) = run_next(library, process) {
+            return Some(TraceItem::Run { pid, count: 1 });
+        }
+        end(alloc, process, &mut self.objects, STUCK);
+        leave(&mut self.processes, &self.objects);
+        // What is noted is of a call before it, and no wait is left that was made by one of those.
+        end_behind(&self.taken, &self.processes, &mut self.objects, pid);
+        Some(TraceItem::Stuck { pid })
     }
-    if let Some((call, outcome)) = call_next(
-        alloc, library, processes, objects, blocked, taken, place,
-    ) {
-        let item = TraceItem::Call { pid, call, outcome };
-        leave(processes, objects);
-        end_behind(taken, processes, objects, pid);
-        return Some(item);
+
+    /// Does the call that stands next for the process at this place, and tells its name and how it
+    /// ends; where waits are registered, the handles that it took are noted, and where it is a start, the
+    /// process that it names; where its program was checked, nothing is tested that is known of its calls.
+    /// Where none stands next nothing changes.
+    #[inline(always)]
+    fn call_next(
+        &mut self,
+        alloc: Global,
+        library: &Library,
+        place: usize,
+    ) -> Option<(CallName, Outcome)>
+        requires may { MayCall (parts_in self.old) place }
+        requires own { AtPlace self.old.processes place (λ caller.
+            OwnWaits caller.pid caller.table.entries self.old.objects) }
+        requires sure { AtPlace self.old.processes place (λ caller.
+            IsSureIfChecked library.now caller self.old.objects) }
+        ensures calls { IfSome result (λ done. AtPlace self.old.processes place (λ caller.
+            CalledAmong library.now place caller
+            (parts_in self.old) done.0 done.1 (parts_in self.new))) }
+        ensures taken { IfSome result (λ done. AtPlace self.old.processes place (λ caller.
+            NotesNext library.now caller self.old.objects self.new.taken)) }
+        ensures child { IfSome result (λ done. AtPlace self.old.processes place (λ caller.
+            NotesNextChild library.now caller done.0 self.new.taken)) }
+        ensures task { IfSome result (λ done. AtPlace self.old.processes place (λ caller.
+            NotesNextTask library.now caller self.old.objects done.0 self.new.taken)) }
+        ensures room { KeepsRoom self.old self.new }
+        ensures missing { IfNone result (AtPlace self.old.processes place (λ caller.
+            call_here (stands_next library.now caller) ≡ None)) }
+        ensures unchanged { IfNone result (self.new ≡ self.old) }
+    {
+        let Some((call, checked)) = call_there(library, &self.processes.list[place]) else {
+            return None;
+        };
+        if checked {
+            note_taken(
+                &mut self.taken,
+                &self.processes.list[place],
+                &mut self.objects,
+                &call,
+            );
+            let outcome = self.call_checked(alloc, library, place, &call);
+            return Some((call.name, outcome));
+        }
+        if !has_its_memory(&call, &self.processes.list[place].cpu) {
+            return None;
+        }
+        note_taken(
+            &mut self.taken,
+            &self.processes.list[place],
+            &mut self.objects,
+            &call,
+        );
+        let outcome = self.call::<true>(alloc, library, place, &call);
+        Some((call.name, outcome))
     }
-    let process = &mut processes.list[place];
-    if let Some(()) = run_next(library, process) {
-        return Some(TraceItem::Run { pid, count: 1 });
-    }
-    end(alloc, process, objects, STUCK);
-    leave(processes, objects);
-    // What is noted is of a call before it, and no wait is left that was made by one of those.
-    end_behind(taken, processes, objects, pid);
-    Some(TraceItem::Stuck { pid })
 }
 
 /// Whether the step was a local instruction, behind which no wait ends or fires and no process wakes.
@@ -147,58 +190,6 @@ pub fn is_local(item: &TraceItem) -> bool
     ensures { result ≡ tells_local item.now }
 {
     matches!(item, TraceItem::Run { .. })
-}
-
-/// Does the call that stands next for the process at this place, and tells its name and how it
-/// ends; where waits are registered, the handles that it took are noted, and where it is a start, the
-/// process that it names; where its program was checked, nothing is tested that is known of its calls.
-/// Where none stands next nothing changes.
-#[inline(always)]
-fn call_next(
-    alloc: Global,
-    library: &Library,
-    processes: &mut Processes,
-    objects: &mut Objects,
-    blocked: &mut Vec<Pid>,
-    taken: &mut Taken,
-    place: usize,
-) -> Option<(CallName, Outcome)>
-    requires may { MayCall (parts_in processes.old objects.old blocked.old) place }
-    requires own { AtPlace processes.old place (λ caller.
-        OwnWaits caller.pid caller.table.entries objects.old) }
-    requires sure { AtPlace processes.old place (λ caller.
-        IsSureIfChecked library.now caller objects.old) }
-    ensures calls { IfSome result (λ done. AtPlace processes.old place (λ caller.
-        CalledAmong library.now place caller
-        (parts_in processes.old objects.old blocked.old) done.0 done.1
-        (parts_in processes.new objects.new blocked.new))) }
-    ensures taken { IfSome result (λ done. AtPlace processes.old place (λ caller.
-        NotesNext library.now caller objects.old taken.new)) }
-    ensures child { IfSome result (λ done. AtPlace processes.old place (λ caller.
-        NotesNextChild library.now caller done.0 taken.new)) }
-    ensures task { IfSome result (λ done. AtPlace processes.old place (λ caller.
-        NotesNextTask library.now caller objects.old done.0 taken.new)) }
-    ensures room { KeepsRoom processes.old blocked.old processes.new blocked.new }
-    ensures missing { IfNone result (AtPlace processes.old place (λ caller.
-        call_here (stands_next library.now caller) ≡ None)) }
-    ensures same_processes { IfNone result (processes.new.list.items ≡ processes.old.list.items) }
-    ensures same_objects { IfNone result (objects.new ≡ objects.old) }
-    ensures same_blocked { IfNone result (blocked.new.items ≡ blocked.old.items) }
-{
-    let Some((call, checked)) = call_there(library, &processes.list[place]) else {
-        return None;
-    };
-    if checked {
-        note_taken(taken, &processes.list[place], objects, &call);
-        let outcome = do_sure(alloc, library, processes, objects, blocked, place, &call);
-        return Some((call.name, outcome));
-    }
-    if !has_its_memory(&call, &processes.list[place].cpu) {
-        return None;
-    }
-    note_taken(taken, &processes.list[place], objects, &call);
-    let outcome = do_call::<true>(alloc, library, processes, objects, blocked, place, &call);
-    Some((call.name, outcome))
 }
 
 /// Notes the handles that the call takes, where waits are registered, the process that it is to start,

@@ -20,8 +20,7 @@ ghost use Rattle.zl_calls.specs.Waking.{Wakes, WakesOne, WakesSleeper, HaveCount
 ghost use Rattle.zl_calls.specs.Told.{is_asleep};
 ghost use Rattle.zl_calls.specs.Woke.{HaveLeft};
 ghost use Rattle.zl_rights.specs.World.{Process as ProcessValue};
-ghost use Rattle.zl_calls.specs.Calling.{world_in};
-ghost use Rattle.zl_calls.specs.World.{held, packet_registers, process_entry, signal_registers, state_value};
+ghost use Rattle.zl_calls.specs.World.{held, packet_registers, process_entry, signal_registers, state_value, world_blocked};
 
 use crate::process::{Process, Registers, State};
 use crate::processes::Processes;
@@ -157,8 +156,8 @@ fn wake_each(
 ) -> Woke
     requires consistent { IsConsistent processes.old.list.items objects.old }
     requires list { AreBlocked processes.old.list.items blocked.old.items }
-    ensures wakes { world_in processes.new objects.new blocked.new
-        ≡ fold woken (world_in processes.old objects.old blocked.old) blocked.old.items }
+    ensures wakes { world_blocked processes.new.list.items objects.new blocked.new.items ≡ fold woken
+        (world_blocked processes.old.list.items objects.old blocked.old.items) blocked.old.items }
     ensures consistent { IsConsistent processes.new.list.items objects.new }
     ensures list { AreBlocked processes.new.list.items blocked.new.items }
     ensures held { map held processes.new.list.items ≡ map held processes.old.list.items }

@@ -19,9 +19,10 @@ ghost use Rattle.zl_calls.specs.Killed.{TellsKilled};
 ghost use Rattle.zl_calls.specs.Told.{killed_of, woke_of, FitsItem};
 
 use crate::boot::{Made, booted};
+use crate::parts::Parts;
 use crate::processes::Processes;
 use crate::step::taken::Taken;
-use crate::step::{act_for, is_local, next_name};
+use crate::step::{is_local, next_name};
 use crate::told::{Killed, Told, Woke, effect_of};
 use crate::waits::fire_waits;
 use crate::waking::{add_blocked, fall_asleep, wake};
@@ -40,13 +41,7 @@ use zl_rights::{Pid, Status};
 pub struct World {
     alloc: Global,
     library: Library,
-    processes: Processes,
-    objects: Objects,
-    // The processes that are blocked, the longest blocked first. There is room for each process, so
-    // that none takes memory to block.
-    blocked: Vec<Pid>,
-    // What the last call took, made once as each step would fill it with zeros.
-    taken: Taken,
+    parts: Parts,
 }
 
 impl Model for World {
@@ -55,18 +50,19 @@ impl Model for World {
 
     ghost Value = { Machine };
 
-    ghost use Rattle.zl_calls.specs.World.{free_entry, world_blocked};
+    ghost use Rattle.zl_calls.specs.World.{free_entry};
+    ghost use Rattle.zl_calls.specs.Calling.{world_in};
     ghost use Rattle.zl_calls.specs.Blocked.{IsWhole};
 
     ghost view = { λ w. record {
       programs = w.library;
-      world = world_blocked w.processes.list.items w.objects w.blocked.items;
-      free = map free_entry w.processes.list.items;
+      world = world_in w.parts;
+      free = map free_entry w.parts.processes.list.items;
     } };
 
     ghost invariant = { λ w.
-        IsWhole w.library w.processes.list.items w.objects w.blocked.items
-        (vec_capacity w.blocked) };
+        IsWhole w.library w.parts.processes.list.items w.parts.objects w.parts.blocked.items
+        (vec_capacity w.parts.blocked) };
 }
 
 /// What a process did that wasn't at a call.
@@ -121,14 +117,16 @@ impl World {
         Ok(World {
             alloc,
             library,
-            processes: Processes {
-                list: processes,
-                unstarted: Vec::new(alloc),
-                near: 0,
+            parts: Parts {
+                processes: Processes {
+                    list: processes,
+                    unstarted: Vec::new(alloc),
+                    near: 0,
+                },
+                objects,
+                blocked,
+                taken: Taken::none(alloc),
             },
-            objects,
-            blocked,
-            taken: Taken::none(alloc),
         })
     }
 
@@ -143,14 +141,14 @@ impl World {
     pub fn process_count(&self) -> usize
         ensures { result ≡ length self.now.world.processes }
     {
-        self.processes.list.len()
+        self.parts.processes.list.len()
     }
 
     /// How many processes are blocked.
     pub fn blocked_count(&self) -> usize
         ensures { result ≡ length self.now.world.blocked }
     {
-        self.blocked.len()
+        self.parts.blocked.len()
     }
 
     /// The koid of the n-th process ever made, from 0.
@@ -158,15 +156,15 @@ impl World {
         ensures koid { result ≡ slice_get (map (λ p. p.0) self.now.world.processes) n }
         ensures in_order { IsTrue (is_sorted nat_cmp self.now.world.processes) }
     {
-        Some(self.processes.list.get(n)?.pid)
+        Some(self.parts.processes.list.get(n)?.pid)
     }
 
     /// What the process is in; a number that was never a process is gone.
     pub fn state_of(&self, pid: Pid) -> ProcState
         ensures { result ≡ state_in self.now pid }
     {
-        match self.processes.place_of(pid) {
-            Some(place) => self.processes.list[place].state(),
+        match self.parts.processes.place_of(pid) {
+            Some(place) => self.parts.processes.list[place].state(),
             None => ProcState::Gone,
         }
     }
@@ -177,8 +175,8 @@ impl World {
         ensures { option_map (λ cpu. cpu.now) result
             ≡ option_map (λ p. p.cpu) (get self.now.world.processes pid) }
     {
-        let place = self.processes.place_of(pid)?;
-        Some(&self.processes.list[place].cpu)
+        let place = self.parts.processes.place_of(pid)?;
+        Some(&self.parts.processes.list[place].cpu)
     }
 
     /// The image that the process runs; nothing for a number that was never a process.
@@ -187,8 +185,8 @@ impl World {
             ≡ option_map (λ program. program.image)
             (program_of self.now.programs self.now.world pid) }
     {
-        let place = self.processes.place_of(pid)?;
-        let program = self.library.get(self.processes.list[place].program)?;
+        let place = self.parts.processes.place_of(pid)?;
+        let program = self.library.get(self.parts.processes.list[place].program)?;
         Some(program.image())
     }
 
@@ -196,8 +194,8 @@ impl World {
     pub fn call_at(&self, pid: Pid) -> Option<CallName>
         ensures { result ≡ call_for self.now pid }
     {
-        let place = self.processes.place_of(pid)?;
-        let process = &self.processes.list[place];
+        let place = self.parts.processes.place_of(pid)?;
+        let process = &self.parts.processes.list[place];
         if process.is_ready() {
             next_name(&self.library, process)
         } else {
@@ -231,36 +229,28 @@ impl World {
         ensures not_ready { IfNone result (is_ready_in self.old pid ≡ false) }
         ensures unchanged { IfNone result (self.new ≡ self.old) }
     {
-        let item = act_for(
-            self.alloc,
-            &self.library,
-            &mut self.processes,
-            &mut self.objects,
-            &mut self.blocked,
-            &mut self.taken,
-            pid,
-        )?;
+        let item = self.parts.act(self.alloc, &self.library, pid)?;
         if is_local(&item) {
             return Some((item, Told::Same));
         }
         let effect = effect_of(&item);
-        add_blocked(&mut self.blocked, pid, effect);
-        fall_asleep(&self.processes, &mut self.objects, pid, effect);
-        let started = effect.started(self.taken.started);
-        if self.objects.is_quiet() {
+        add_blocked(&mut self.parts.blocked, pid, effect);
+        fall_asleep(&self.parts.processes, &mut self.parts.objects, pid, effect);
+        let started = effect.started(self.parts.taken.started);
+        if self.parts.objects.is_quiet() {
             let woke = Woke::of(started);
-            let told = Told::of(effect, woke, &mut self.taken);
+            let told = Told::of(effect, woke, &mut self.parts.taken);
             return Some((item, told));
         }
-        fire_waits(&self.processes, &mut self.objects);
+        fire_waits(&self.parts.processes, &mut self.parts.objects);
         let woke = wake(
-            &mut self.processes,
-            &mut self.objects,
-            &mut self.blocked,
+            &mut self.parts.processes,
+            &mut self.parts.objects,
+            &mut self.parts.blocked,
             started,
         );
-        self.objects.calm();
-        let told = Told::of(effect, woke, &mut self.taken);
+        self.parts.objects.calm();
+        let told = Told::of(effect, woke, &mut self.parts.taken);
         Some((item, told))
     }
 
@@ -274,7 +264,7 @@ impl World {
             Told::Woke(woke) => self.keep_room(woke),
             Told::Killed(killed) => {
                 let Killed { tasks, woke } = killed;
-                self.objects.return_told(tasks);
+                self.parts.objects.return_told(tasks);
                 self.keep_room(woke);
             }
         }
@@ -285,7 +275,7 @@ impl World {
         ensures { self.new ≡ self.old }
     {
         if let Woke::Several(list) = woke {
-            self.objects.return_list(list.pids);
+            self.parts.objects.return_list(list.pids);
         }
     }
 
@@ -340,7 +330,7 @@ impl World {
     pub fn find(&mut self, pid: Pid)
         ensures { self.new ≡ self.old }
     {
-        self.processes.find(pid);
+        self.parts.processes.find(pid);
     }
 
     /// What the process goes on with by itself: its program, and its Cpu as it stands.
@@ -351,10 +341,10 @@ impl World {
         requires { IsTrue (is_ready_in self.now pid) }
         ensures { IfOk result (IsTurn self.now pid) }
     {
-        let Some(place) = self.processes.place_of(pid) else {
+        let Some(place) = self.parts.processes.place_of(pid) else {
             unreachable!()
         };
-        let process = &self.processes.list[place];
+        let process = &self.parts.processes.list[place];
         let Some(program) = self.library.shared(process.program) else {
             unreachable!()
         };
@@ -367,10 +357,10 @@ impl World {
     pub fn fits(&self, done: &Done) -> bool
         ensures { IsTrue result ↔ Fits self.now done.now }
     {
-        let Some(place) = self.processes.place_of(done.pid()) else {
+        let Some(place) = self.parts.processes.place_of(done.pid()) else {
             return false;
         };
-        let process = &self.processes.list[place];
+        let process = &self.parts.processes.list[place];
         let Some(program) = self.library.get(process.program) else {
             return false;
         };
@@ -393,10 +383,10 @@ impl World {
     {
         // Its clause has that these instructions follow one another.
         done.ran();
-        let Some(place) = self.processes.place_of(done.pid()) else {
+        let Some(place) = self.parts.processes.place_of(done.pid()) else {
             unreachable!()
         };
-        let process = &mut self.processes.list[place];
+        let process = &mut self.parts.processes.list[place];
         done.move_to(&mut process.cpu)
     }
 }

@@ -1,6 +1,6 @@
 -- The call process_create in the midst of all processes: from what it did to a step, up to where processes wake.
 use Rattle.zl_calls.proofs.Common.{AreBlocked, AtCall, CallName, CreatesProcess, Entry, Err, IsActed, IsAnsweredIn, IsConsistent, IsRefusedBy, IsToldIn}
-use Rattle.zl_calls.proofs.Common.{Library, List, MANAGE_PROCESS, MakesOne, None, Objects, Ok, Outcome, Parts, PlainCalls, Process, ProcessCreateDoes, Replies}
+use Rattle.zl_calls.proofs.Common.{Library, List, MANAGE_PROCESS, MakesOne, None, Objects, Ok, Outcome, Reach, PlainCalls, Process, ProcessCreateDoes, Replies}
 use Rattle.zl_calls.proofs.Common.{Result, Site, Some, Status, [], ap, cpu_answered, create_refusal, gives_refused, handle_operands, is_process, lives}
 use Rattle.zl_calls.proofs.Common.{looked_up, next_for, next_looks, none-some, one_value, parts, plain_refusal, process_create, process_value, refl, remove_all}
 use Rattle.zl_calls.proofs.Common.{same_Some, set, slice_get, slice_set, status_of, subst, suc, sym, taken_handles, told_by, true, wants_memory, with_new}
@@ -42,7 +42,7 @@ get_again (a ∷ xs) ys (suc i) x c at = get_again xs ys i x c at
 -- the process p stands at the place, under the pid, and is at the call
 module _ {ps : List Process} {r : Objects} {blocked : List ℕ} {pid place : ℕ} {p : Process} (turn : AtTurn ps r blocked pid place p) (lib : Library)
     (name : CallName) (free : IsFree lib (world_value ps r) p.pid name) (job program : ℕ) (base : Site)
-    (next : next_for lib (process_value p) ≡ AtCall name (asking (process_create job program) base)) (all2 : Parts) where
+    (next : next_for lib (process_value p) ≡ AtCall name (asking (process_create job program) base)) (all2 : Reach) where
   abbrev s : Site
   s = asking (process_create job program) base
 
@@ -89,7 +89,7 @@ module _ {ps : List Process} {r : Objects} {blocked : List ℕ} {pid place : ℕ
 
   -- ---- a process is made
 
-  module _ (made : ℕ) (between : Parts) (done : CreatesProcess lib (parts ps r blocked) place job program made between) where
+  module _ (made : ℕ) (between : Reach) (done : CreatesProcess lib (parts ps r blocked) place job program made between) where
     handed_is : done.after ≡ record p { table = done.after.table }
     handed_is = done.is_caller.same ∙ (λ i. record (is_caller turn done.caller done.is_caller.is_there i) { table = done.after.table })
 
@@ -164,14 +164,14 @@ module _ {ps : List Process} {r : Objects} {blocked : List ℕ} {pid place : ℕ
 
   -- ---- either
 
-  by_answer : (answer : Result ℕ Status) (between : Parts) → ProcessCreateDoes lib place job program p (parts ps r blocked) answer between
+  by_answer : (answer : Result ℕ Status) (between : Reach) → ProcessCreateDoes lib place job program p (parts ps r blocked) answer between
       → IsToldIn s place (told_by one_value answer) between all2 → Left (outcome.Answered (status_of answer))
   by_answer (Err answer) between does is_told =
-      let before : between.processes ≡ ps = ap (λ (all : Parts). all.processes) does.refused in
+      let before : between.processes ≡ ps = ap (λ (all : Reach). all.processes) does.refused in
       let same : is_told.caller ≡ p = is_caller turn is_told.caller (ap (λ (qs : List Process). slice_get qs place) (sym before) ∙ is_told.is_there) in
       left_as all2 (set ps place (record p { cpu = cpu_answered s answer [] p.cpu })) r blocked
       (is_told.processes ∙ (λ i. slice_set (before i) place (record (same i) { cpu = cpu_answered s answer [] (same i).cpu })))
-      (is_told.objects ∙ ap (λ (all : Parts). all.objects) does.refused) (is_told.blocked ∙ ap (λ (all : Parts). all.blocked) does.refused)
+      (is_told.objects ∙ ap (λ (all : Reach). all.objects) does.refused) (is_told.blocked ∙ ap (λ (all : Reach). all.blocked) does.refused)
       (refused_so answer does.err)
   by_answer (Ok made) between does is_told =
       let done : CreatesProcess lib (parts ps r blocked) place job program made between = does.ok in

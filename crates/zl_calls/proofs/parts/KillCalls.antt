@@ -1,7 +1,7 @@
 -- The call task_kill, from what it did among all processes to the relation of steps, up to where processes wake.
 use Rattle.zl_calls.proofs.Common.{ActsAndSettles, AreBlocked, AreLeft, AtCall, Bool, CallName, Calls, ClosesAllEnded, ClosesEnded, Cpu, DESTROY, Ended, Entry}
 use Rattle.zl_calls.proofs.Common.{Free, FreeBy, IsConsistent, IsNamed, IsSound, IsTrue, KILLED, KillsTask, Library, List, ListsWithout, Map, None, Objects, Ok}
-use Rattle.zl_calls.proofs.Common.{Option, Outcome, Parts, Process, ProcessValue, Ready, Releases, Settles, Site, Some, State, StateValue, Values, World, []}
+use Rattle.zl_calls.proofs.Common.{Option, Outcome, Reach, Process, ProcessValue, Ready, Releases, Settles, Site, Some, State, StateValue, Values, World, []}
 use Rattle.zl_calls.proofs.Common.{all_given, all_killed, all_koids, ap, arith, cases_Bool, coming, count_by, cpu_answered, each, effect, ended, ended_within}
 use Rattle.zl_calls.proofs.Common.{entered_free, eq-eqb, eqb-true, false, false≢true, filter, free_at, free_entry, get, get-each, get-update, gives_ok}
 use Rattle.zl_calls.proofs.Common.{handle_operands, has_handle, if◌then◌else◌, in_order-each, inl, inr, insert_all, is_blocked, is_blocking, is_left_at_port}
@@ -92,7 +92,7 @@ module _ (ps : List Process) (r : Objects) (whole : IsConsistent ps r) (blocked 
   abbrev within : ℕ → Bool
   within = is_within_here r.objects t
 
-  module _ (all2 : Parts) (kills : KillsTask (parts ps r blocked) t all2) where
+  module _ (all2 : Reach) (kills : KillsTask (parts ps r blocked) t all2) where
     abbrev ps2 : List Process
     ps2 = all2.processes
 
@@ -244,7 +244,7 @@ module _ (lib : Library) (ps : List Process) (r : Objects) (whole : IsConsistent
   abbrev kill_site : Site
   kill_site = asking (task_kill task) base
 
-  module _ (all2 : Parts) (named : Entry) (is_named : looked_up p.table.entries task (kind.Process ∷ kind.Job ∷ []) DESTROY ≡ Ok named)
+  module _ (all2 : Reach) (named : Entry) (is_named : looked_up p.table.entries task (kind.Process ∷ kind.Job ∷ []) DESTROY ≡ Ok named)
       (kills : KillsTask (parts ps r blocked) named.koid all2) where
     abbrev t : ℕ
     t = named.koid

@@ -1,6 +1,6 @@
 -- The call task_kill as a step: refused, done, or with the end of its caller.
 use Rattle.zl_calls.proofs.Common.{AtCall, CallName, Calls, Err, IsAnsweredIn, IsConsistent, IsRefusedBy, IsToldIn, KillsNamed, Library, List, Objects, Ok}
-use Rattle.zl_calls.proofs.Common.{Outcome, Parts, Process, Ready, Result, Site, Status, TaskKillDoes, [], ap, cpu_answered, false, gives_refused}
+use Rattle.zl_calls.proofs.Common.{Outcome, Reach, Process, Ready, Result, Site, Status, TaskKillDoes, [], ap, cpu_answered, false, gives_refused}
 use Rattle.zl_calls.proofs.Common.{handle_operands, is_blocked, is_process, kill_refusal, next_for, no_value, parts, plain_refusal, process_value, refl}
 use Rattle.zl_calls.proofs.Common.{refusal, remove_all, set, slice_get, slice_set, state_value, status_of, subst, sym, taken_handles, task_kill, told_by}
 use Rattle.zl_calls.proofs.Common.{wants_nothing, world_blocked, world_value, ℕ, ℤ, ⊤, ◌∙◌, ◌≡◌}
@@ -24,7 +24,7 @@ use Rattle.zl_calls.proofs.processes.Written.{refusal_keeps}
 module _ {ps : List Process} {r : Objects} {blocked : List ℕ} {pid place : ℕ} {p : Process} (turn : AtTurn ps r blocked pid place p) (lib : Library)
     (name : CallName) (free : IsFree lib (world_value ps r) p.pid name) (free_beside : IsFree lib (world_blocked ps r blocked) p.pid name) (task : ℕ)
     (base : Site)
-    (next : next_for lib (process_value p) ≡ AtCall name (asking (task_kill task) base)) (all2 : Parts) where
+    (next : next_for lib (process_value p) ≡ AtCall name (asking (task_kill task) base)) (all2 : Reach) where
   abbrev s : Site
   s = asking (task_kill task) base
 
@@ -83,15 +83,15 @@ module _ {ps : List Process} {r : Objects} {blocked : List ℕ} {pid place : ℕ
 
   -- ---- it is done
 
-  by_answer : (answer : Result ⊤ Status) (between : Parts) → TaskKillDoes task p (parts ps r blocked) answer between
+  by_answer : (answer : Result ⊤ Status) (between : Reach) → TaskKillDoes task p (parts ps r blocked) answer between
       → (is_told : IsToldIn s place (told_by no_value answer) between all2)
       → ((code : ℤ) → is_told.caller.state ≡ state.Ended code → ⊥) → Left (outcome.Answered (status_of answer))
   by_answer (Err answer) between does is_told alive =
-      let before : between.processes ≡ ps = ap (λ (all : Parts). all.processes) does.refused in
+      let before : between.processes ≡ ps = ap (λ (all : Reach). all.processes) does.refused in
       let same : is_told.caller ≡ p = is_caller turn is_told.caller (ap (λ (qs : List Process). slice_get qs place) (sym before) ∙ is_told.is_there) in
       left_as all2 (set ps place (record p { cpu = cpu_answered s answer [] p.cpu })) r blocked
       (is_told.processes ∙ (λ i. slice_set (before i) place (record (same i) { cpu = cpu_answered s answer [] (same i).cpu })))
-      (is_told.objects ∙ ap (λ (all : Parts). all.objects) does.refused) (is_told.blocked ∙ ap (λ (all : Parts). all.blocked) does.refused)
+      (is_told.objects ∙ ap (λ (all : Reach). all.objects) does.refused) (is_told.blocked ∙ ap (λ (all : Reach). all.blocked) does.refused)
       (refused_so answer does.err)
   by_answer (Ok tt) between does is_told alive =
       let done : KillsNamed (parts ps r blocked) p task between = does.ok in

@@ -1,6 +1,6 @@
 -- What a kill leaves of registered waits: none of a process that it ended, and those of the others as they were.
 use Rattle.zl_calls.proofs.Common.{All, All-head, All-tail, Bool, ClosesAllEnded, ClosesEnded, Contains, Entry, IsTrue, KeepsWithout, KillsTask, List, Map}
-use Rattle.zl_calls.proofs.Common.{Objects, Option, Parts, Process, ProcessValue, Some, Wait, [], ap, cases_Bool, ended_if, ended_within, eqb-true, false}
+use Rattle.zl_calls.proofs.Common.{Objects, Option, Reach, Process, ProcessValue, Some, Wait, [], ap, cases_Bool, ended_if, ended_within, eqb-true, false}
 use Rattle.zl_calls.proofs.Common.{false≢true, get, get_or, has_handle, if◌then◌else◌, inl, inr, is_over, is_sorted, is_within_here, lives, lives_on, map}
 use Rattle.zl_calls.proofs.Common.{nat_cmp, none-some, not, one_more, parts, process_entry, process_value, refl, same_Some, slice_get-get_or, state_passes}
 use Rattle.zl_calls.proofs.Common.{state_value, subst, sym, true, ℕ, ◌&&◌, ◌==◌, ◌∙◌, ◌∷◌, ◌≡◌}
@@ -90,7 +90,7 @@ closes_none _ _ r r2 (one_more p p2 ps ps2 _ mid _ one rest) k v dead = elim (ca
 
 -- ---- the whole kill
 
-module _ (ps : List Process) (r : Objects) (sorted : IsTrue (is_sorted nat_cmp (map process_entry ps))) (blocked : List ℕ) (t : ℕ) (all2 : Parts)
+module _ (ps : List Process) (r : Objects) (sorted : IsTrue (is_sorted nat_cmp (map process_entry ps))) (blocked : List ℕ) (t : ℕ) (all2 : Reach)
     (kills : KillsTask (parts ps r blocked) t all2) where
   abbrev ended : List Process
   ended = map (ended_within r t) ps
@@ -127,7 +127,7 @@ ended_at r t (p ∷ ps) k q at =
     still true = (refl, refl)
     still false = (refl, refl)
 
-module _ (ps : List Process) (r : Objects) (blocked : List ℕ) (t : ℕ) (all2 : Parts) (kills : KillsTask (parts ps r blocked) t all2) where
+module _ (ps : List Process) (r : Objects) (blocked : List ℕ) (t : ℕ) (all2 : Reach) (kills : KillsTask (parts ps r blocked) t all2) where
   -- each wait that is left was there before
   pub killed_older : (x : Wait) → Contains all2.objects.waits x → Contains r.waits x
   killed_older x there = kills.listed.older x

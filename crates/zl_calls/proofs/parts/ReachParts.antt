@@ -1,6 +1,6 @@
 -- The calls that reach other processes, from what they do to how they are answered.
 use Rattle.zl_calls.proofs.Common.{Bool, CreatesProcess, EndsOrAnswers, Err, HasBegun, IsAnsweredIn, IsCallerStill, Library, List, None, Objects, Ok, Option}
-use Rattle.zl_calls.proofs.Common.{Outcome, Parts, Process, ProcessCreateDoes, ProcessStartDoes, Reaches, Result, Site, Some, State, Status, TaskKillDoes, []}
+use Rattle.zl_calls.proofs.Common.{Outcome, Reach, Process, ProcessCreateDoes, ProcessStartDoes, Reaches, Result, Site, Some, State, Status, TaskKillDoes, []}
 use Rattle.zl_calls.proofs.Common.{answered_in, ap, cpu_answered, creates_process, ending_of, false, false≢true, get_or, is_created, is_ready, kills}
 use Rattle.zl_calls.proofs.Common.{kills_itself, length, no_value, none-some, one_value, parts, process_create, process_start, refl, register_set, same_Some}
 use Rattle.zl_calls.proofs.Common.{site, slice_get, slice_get_within, slice_set, starts, state_value, status_of, subst, suc, sym, task_kill, told_by}
@@ -32,7 +32,7 @@ front [] ys i x at = absurd (none-some x at)
 front (y ∷ xs) ys zero x at = at
 front (y ∷ xs) ys (suc i) x at = front xs ys i x at
 
-pub created_still : (lib : Library) (place job program : ℕ) (caller : Process) (all all2 : Parts) (answer : Result ℕ Status)
+pub created_still : (lib : Library) (place job program : ℕ) (caller : Process) (all all2 : Reach) (answer : Result ℕ Status)
     → slice_get all.processes place ≡ Some caller
     → ProcessCreateDoes lib place job program caller all answer all2 → IsCallerStill caller (slice_get all2.processes place)
 created_still lib place job program caller all all2 (Ok made) at does =
@@ -43,7 +43,7 @@ created_still lib place job program caller all all2 (Ok made) at does =
     ∙ front (slice_set all.processes place it.after) (it.new ∷ []) place it.after (get_set all.processes place it.caller it.after it.is_caller.is_there) in
     subst (λ (o : Option Process). IsCallerStill caller o) (sym there) (ap (λ (p : Process). p.cpu) it.is_caller.same ∙ ap (λ (p : Process). p.cpu) same)
 created_still lib place job program caller all all2 (Err refused) at does =
-    subst (λ (o : Option Process). IsCallerStill caller o) (sym (ap (λ (x : Parts). slice_get x.processes place) does.refused ∙ at)) refl
+    subst (λ (o : Option Process). IsCallerStill caller o) (sym (ap (λ (x : Reach). slice_get x.processes place) does.refused ∙ at)) refl
 
 -- what stands at a place is written there again
 set_same : (xs : List Process) (i : ℕ) (x : Process) → slice_get xs i ≡ Some x → slice_set xs i x ≡ xs
@@ -53,7 +53,7 @@ set_same (y ∷ xs) (suc i) x at = ap (λ (ys : List Process). y ∷ ys) (set_sa
 
 -- ---- the answer
 
-module _ {A : Type 0} (values : A → List ℕ) (Does : Parts → Result A Status → Parts → Type 0) (s : Site) (place : ℕ) (all between : Parts)
+module _ {A : Type 0} (values : A → List ℕ) (Does : Reach → Result A Status → Reach → Type 0) (s : Site) (place : ℕ) (all between : Reach)
     (answer : Result A Status)
     (does : Does all answer between) (p : Process) (at : slice_get between.processes place ≡ Some p) where
   pub answered_so : (o : Outcome) → o ≡ outcome.Answered (status_of answer) → (p2 : Process)
@@ -95,15 +95,15 @@ module _ (lib : Library) (ps ps1 : List Process) (r r1 : Objects) (blocked block
   there = read_at ps1 place p (still_within ps1 place caller still) read
 
   pub start_reaches : (process h word taken_in status_in : ℕ) (answer : Result ⊤ Status)
-      → ProcessStartDoes lib place process h word caller (parts ps r blocked) answer (parts ps1 r1 blocked)
+      → ProcessStartDoes lib place process h word caller (parts ps r blocked) answer (parts ps1 r1 blocked1)
       → (o : Outcome) → o ≡ outcome.Answered (status_of answer) → (p2 : Process)
       → p2 ≡ answered_in (record p { cpu = register_set p.cpu taken_in 0 }) (status_in ∷ []) no_value answer
       → Reaches lib place caller (site (process_start process h word) (taken_in ∷ []) (status_in ∷ [])) (parts ps r blocked) o
-      (parts (slice_set ps1 place p2) r1 blocked)
+      (parts (slice_set ps1 place p2) r1 blocked1)
   start_reaches process h word taken_in status_in answer does o ends p2 told =
       starts process h word refl
       (answered_so no_value (ProcessStartDoes lib place process h word caller) (site (process_start process h word) (taken_in ∷ []) (status_in ∷ [])) place
-      (parts ps r blocked) (parts ps1 r1 blocked) answer does p there o ends p2 told)
+      (parts ps r blocked) (parts ps1 r1 blocked1) answer does p there o ends p2 told)
 
   pub create_reaches : (job program status_in made_in : ℕ) (answer : Result ℕ Status)
       → ProcessCreateDoes lib place job program caller (parts ps r blocked) answer (parts ps1 r1 blocked1)
@@ -137,7 +137,7 @@ module _ (lib : Library) (ps ps1 : List Process) (r r1 : Objects) (blocked block
         (sym (ap (λ (q : Process). slice_set ps1 place q) same ∙ set_same ps1 place p there))
         (kills_itself task refl (record { caller = p; code = code; does = does; is_there = there; is_over = is; ends = ends }))
     kill_ended (Err refused) does code is o ends p2 same =
-        let stays : slice_get ps1 place ≡ Some caller = ap (λ (x : Parts). slice_get x.processes place) does.refused ∙ is_caller in
+        let stays : slice_get ps1 place ≡ Some caller = ap (λ (x : Reach). slice_get x.processes place) does.refused ∙ is_caller in
         let one : p ≡ caller = same_Some p caller (sym there ∙ stays) in
         absurd (false≢true (ap (λ (x : State). is_ready (state_value x)) (sym is) ∙ (ap (λ (q : Process). is_ready (state_value q.state)) one ∙ ready)))
 

@@ -1,5 +1,5 @@
 -- A call that reaches other processes: from what it did among them to a step, up to where processes wake.
-use Rattle.zl_calls.proofs.Common.{AtCall, CallName, IsAnsweredIn, Library, List, None, Objects, Outcome, Parts, Process, ProcessCreateDoes, ProcessStartDoes}
+use Rattle.zl_calls.proofs.Common.{AtCall, CallName, IsAnsweredIn, Library, List, None, Objects, Outcome, Reach, Process, ProcessCreateDoes, ProcessStartDoes}
 use Rattle.zl_calls.proofs.Common.{Reaches, Request, Site, TaskKillDoes, ap, creates_process, kills, kills_itself, next_for, no_value, one_value, parts}
 use Rattle.zl_calls.proofs.Common.{process_create, process_start, process_value, refl, starts, subst, sym, task_kill, told_by, verdict_on, world_blocked}
 use Rattle.zl_calls.proofs.Common.{world_value, ℕ, ℤ, ◌∙◌, ◌≡◌}
@@ -28,7 +28,7 @@ module _ {ps : List Process} {r : Objects} {blocked : List ℕ} {pid place : ℕ
   site_is : (request : Request) → s.request ≡ request → s ≡ asking request s
   site_is request is = λ i. record s { request = is i }
 
-  pub reaches_so : (o : Outcome) (all2 : Parts) → Reaches lib place p s (parts ps r blocked) o all2
+  pub reaches_so : (o : Outcome) (all2 : Reach) → Reaches lib place p s (parts ps r blocked) o all2
       → HasLeft lib ps all2.processes r all2.objects blocked all2.blocked pid (item.Call pid name o)
   reaches_so o all2 (creates_process job program is does) =
       create_so turn lib name free job program s (next ∙ ap (AtCall name) (site_is (process_create job program) is)) all2 o

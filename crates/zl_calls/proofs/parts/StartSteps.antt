@@ -1,5 +1,5 @@
 -- The call process_start where it is done: in the world it is what the definitions make of it.
-use Rattle.zl_calls.proofs.Common.{IsToldIn, IsTrue, Library, List, Map, None, Objects, Ok, Parts, PlainCalls, Process, ProcessValue, Site, Some, StartsProcess}
+use Rattle.zl_calls.proofs.Common.{IsToldIn, IsTrue, Library, List, Map, None, Objects, Ok, Reach, PlainCalls, Process, ProcessValue, Site, Some, StartsProcess}
 use Rattle.zl_calls.proofs.Common.{StateValue, TRANSFER, Values, WRITE, [], ap, cases_Bool, cpu_answered, eqb-true, false, get, get_put_other, inl, inr}
 use Rattle.zl_calls.proofs.Common.{is_created, is_ready, is_sorted, is_sorted-update, looked_up, map, nat_cmp, no_value, parts, process_entry, process_start}
 use Rattle.zl_calls.proofs.Common.{process_value, process_with, process_without, refl, same_Some, slice_get, slice_set, start_refusal, started_with}
@@ -11,7 +11,7 @@ use Rattle.zl_calls.proofs.calls.Answered.{IsWrite, asking}
 use Rattle.zl_calls.proofs.parts.StartCalls.{caller_is, child_is, start_calls, writes_at}
 use Rattle.zl_calls.proofs.parts.StartParts.{get_set, not_both, set_apart, set_twice}
 
-module _ {lib : Library} {ps : List Process} {r : Objects} {blocked : List ℕ} {place process h word : ℕ} {p : Process} {all1 all2 : Parts}
+module _ {lib : Library} {ps : List Process} {r : Objects} {blocked : List ℕ} {place process h word : ℕ} {p : Process} {all1 all2 : Reach}
     (base : Site) (is_caller : slice_get ps place ≡ Some p) (ready : is_ready (state_value p.state) ≡ true)
     (sorted : IsTrue (is_sorted nat_cmp (map process_entry ps))) (does : StartsProcess lib (parts ps r blocked) place process h word all1)
     (tells : IsToldIn (asking (process_start process h word) base) place (told_by no_value (Ok tt)) all1 all2) where

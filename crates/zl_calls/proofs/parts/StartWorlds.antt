@@ -1,6 +1,6 @@
 -- The call process_start in the midst of all processes: from what it did to a step, up to where processes wake.
 use Rattle.zl_calls.proofs.Common.{AreBlocked, AtCall, CallName, ClosesEach, ClosesHandle, Err, Handles, IsActed, IsAnsweredIn, IsConsistent, IsNamed}
-use Rattle.zl_calls.proofs.Common.{IsRefusedBy, IsToldIn, Kind, Library, List, Objects, Ok, Outcome, Parts, PlainCalls, Process, ProcessStartDoes, Result, Site}
+use Rattle.zl_calls.proofs.Common.{IsRefusedBy, IsToldIn, Kind, Library, List, Objects, Ok, Outcome, Reach, PlainCalls, Process, ProcessStartDoes, Result, Site}
 use Rattle.zl_calls.proofs.Common.{Some, StartsProcess, Status, TRANSFER, Values, WRITE, World, [], ap, cpu_answered, false≢true, get, gives_refused}
 use Rattle.zl_calls.proofs.Common.{handle_operands, lives, looked_up, next_for, next_looks, no_value, parts, process_start, process_value, refl, same_Some, set}
 use Rattle.zl_calls.proofs.Common.{slice_get, slice_set, start_refusal, starting, state_value, status_of, subst, sym, taken_handles, takes, told_by, true}
@@ -36,7 +36,7 @@ task_taken _ h = absurd (false≢true h)
 -- the process p stands at the place, under the pid, and is at the call
 module _ {ps : List Process} {r : Objects} {blocked : List ℕ} {pid place : ℕ} {p : Process} (turn : AtTurn ps r blocked pid place p) (lib : Library)
     (name : CallName) (free : IsFree lib (world_value ps r) p.pid name) (process h word : ℕ) (base : Site)
-    (next : next_for lib (process_value p) ≡ AtCall name (asking (process_start process h word) base)) (all2 : Parts) where
+    (next : next_for lib (process_value p) ≡ AtCall name (asking (process_start process h word) base)) (all2 : Reach) where
   abbrev s : Site
   s = asking (process_start process h word) base
 
@@ -76,7 +76,7 @@ module _ {ps : List Process} {r : Objects} {blocked : List ℕ} {pid place : ℕ
 
   -- ---- it is done
 
-  module _ (between : Parts) (does : StartsProcess lib (parts ps r blocked) place process h word between)
+  module _ (between : Reach) (does : StartsProcess lib (parts ps r blocked) place process h word between)
       (tells : IsToldIn s place (told_by no_value (Ok tt)) between all2) where
     at_place : slice_get ps place ≡ Some p
     at_place = does.is_caller.is_there ∙ ap Some (is_caller turn does.caller does.is_caller.is_there)
@@ -163,7 +163,7 @@ module _ {ps : List Process} {r : Objects} {blocked : List ℕ} {pid place : ℕ
 
   -- ---- either
 
-  by_answer : (answer : Result ⊤ Status) (between : Parts) → ProcessStartDoes lib place process h word p (parts ps r blocked) answer between
+  by_answer : (answer : Result ⊤ Status) (between : Reach) → ProcessStartDoes lib place process h word p (parts ps r blocked) answer between
       → IsToldIn s place (told_by no_value answer) between all2 → Left (outcome.Answered (status_of answer))
   by_answer (Err answer) between does tells =
       let it : ClosesHandle (parts ps r blocked) place h between = does.refused in

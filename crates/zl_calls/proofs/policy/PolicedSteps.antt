@@ -1,5 +1,5 @@
 -- A call in the midst of all processes that the policy of its process's job ends.
-use Rattle.zl_calls.proofs.Common.{AtCall, CallName, EndsBy, KeepSleepers, Library, List, Objects, Outcome, Parts, Policed, Process, Site, Verdict, ap, false}
+use Rattle.zl_calls.proofs.Common.{AtCall, CallName, EndsBy, KeepSleepers, Library, List, Objects, Outcome, Reach, Policed, Process, Site, Verdict, ap, false}
 use Rattle.zl_calls.proofs.Common.{is_blocking, next_for, parts, process_value, refl, set, subst, sym, ℕ, ◌≡◌}
 use Rattle.zl_code.specs.declared.history.TraceItem.TheVariants as item
 use Rattle.zl_calls.specs.Reaching.{IsAlone}
@@ -53,6 +53,6 @@ module _ {ps : List Process} {r : Objects} {blocked : List ℕ} {pid place : ℕ
       })
 
   -- a policy ends it
-  pub policed_so : (o : Outcome) (p2 : Process) (all2 : Parts) → IsAlone (parts ps r blocked) place p2 all2 → Policed s p r o p2 all2.objects
+  pub policed_so : (o : Outcome) (p2 : Process) (all2 : Reach) → IsAlone (parts ps r blocked) place p2 all2 → Policed s p r o p2 all2.objects
       → HasLeft lib ps all2.processes r all2.objects blocked all2.blocked pid (item.Call pid name o)
   policed_so o p2 all2 alone judged = left_as all2 (set ps place p2) all2.objects blocked alone.processes refl alone.blocked (ended_by o p2 all2.objects judged)

@@ -1,6 +1,6 @@
 -- Behind a step that ended processes each registered wait is left: those of the ended have ended with their handles.
 use Rattle.zl_calls.proofs.Common.{ActsHere, All-contains, All-contains_itself, AreKnown, CallActs, CallName, CalledAmong, Contains, Ends, EndsBy, Entry, Err}
-use Rattle.zl_calls.proofs.Common.{IsSoundWait, IsTrue, Library, List, None, NotesNext, Objects, Ok, Option, Outcome, Parts, Process, ProcessValue, Request}
+use Rattle.zl_calls.proofs.Common.{IsSoundWait, IsTrue, Library, List, None, NotesNext, Objects, Ok, Option, Outcome, Reach, Process, ProcessValue, Request}
 use Rattle.zl_calls.proofs.Common.{Result, Site, Some, Status, Taken, TaskKillDoes, Verdict, Wait, action_asked, acts, and_from, and_parts, ap, asks_again}
 use Rattle.zl_calls.proofs.Common.{cases_Bool, creates_process, entry_at, eqb-true, false≢true, get, handles_in, has_handle, has_key, has_seen, inl, inr}
 use Rattle.zl_calls.proofs.Common.{is_end, is_left, is_made_by_handle, kills, kills_itself, map, name_of, none-some, parts, process_entry, process_value, refl}
@@ -71,7 +71,7 @@ module _ {ps : List Process} {r : Objects} {blocked : List ℕ} {pid place : ℕ
             rw (get_after (write_of turn p2 (ap (λ (q : Process). q.pid) ends.process)) x.pid, apart) (before x (ends.waits.keeps.older x listed))
       ])
 
-  module _ (lib : Library) (all2 : Parts) (o : Outcome) (present : AreThere all2.objects) where
+  module _ (lib : Library) (all2 : Reach) (o : Outcome) (present : AreThere all2.objects) where
     abbrev Left : Type 0
     Left = AreLeft (left_all all2.processes all2.objects) all2.objects all2.objects.waits
 
@@ -88,12 +88,12 @@ module _ {ps : List Process} {r : Objects} {blocked : List ℕ} {pid place : ℕ
     over : (code : ℤ) (p2 : Process) → all2.processes ≡ set ps place p2 → Ends code p r p2 all2.objects → Left
     over code p2 is ends = rw is (over_left code p2 all2.objects ends present)
 
-    killed : (task : ℕ) (between : Parts) → (answer : Result ⊤ Status) → TaskKillDoes task p (parts ps r blocked) answer between
+    killed : (task : ℕ) (between : Reach) → (answer : Result ⊤ Status) → TaskKillDoes task p (parts ps r blocked) answer between
         → HaveHandles between.processes between.objects
     killed task between (Ok tt) does x listed =
         let h = held x (killed_older ps r blocked does.ok.named.koid between does.ok.kills x listed) in
         killed_has ps r blocked does.ok.named.koid between does.ok.kills x listed h.process h.at h.e h.live h.names
-    killed task between (Err s) does x listed = subst (λ (all : Parts). HaveHandles all.processes all.objects) (sym does.refused) before x listed
+    killed task between (Err s) does x listed = subst (λ (all : Reach). HaveHandles all.processes all.objects) (sym does.refused) before x listed
 
     exits_so : (request : Request) (s : Site) (p2 : Process) → ends_processes (name_of request) o ≡ true
         → ActsHere (action_asked p.pid request) (asking request s) p r o p2 all2.objects → is_end o ≡ true

@@ -1,5 +1,5 @@
 -- Any call of a process in the midst of all others: from what was done among them to the relation of steps, up to where processes wake.
-use Rattle.zl_calls.proofs.Common.{AtCall, CallActs, CallName, CalledAmong, Ends, IsCovered, IsStuck, IsVerified, Library, List, Moves, Objects, Outcome, Parts}
+use Rattle.zl_calls.proofs.Common.{AtCall, CallActs, CallName, CalledAmong, Ends, IsCovered, IsStuck, IsVerified, Library, List, Moves, Objects, Outcome, Reach}
 use Rattle.zl_calls.proofs.Common.{Process, STUCK, Site, Some, StaysAwake, acts, ap, calls_at, get_or, is_checked, is_ready, next_for, parts, position}
 use Rattle.zl_calls.proofs.Common.{process_value, refl, same_Some, set, slice_get, slice_get-get_or, state_value, subst, sym, true, world_blocked, world_left}
 use Rattle.zl_calls.proofs.Common.{ℕ, ◌==◌, ◌∙◌, ◌≡◌, ◌≢◌}
@@ -17,7 +17,7 @@ use Rattle.zl_calls.proofs.waits.Staying.{AreLeft}
 
 -- the process p stands at the place, under the pid, and is at the call
 module _ {ps : List Process} {r : Objects} {blocked : List ℕ} {pid place : ℕ} {p : Process} (turn : AtTurn ps r blocked pid place p) (lib : Library)
-    (all2 : Parts) (o : Outcome) where
+    (all2 : Reach) (o : Outcome) where
   by_acts : (name : CallName) (s : Site) → next_for lib (process_value p) ≡ AtCall name s → CallActs lib place p s (parts ps r blocked) o all2
       → HasLeft lib ps all2.processes r all2.objects blocked all2.blocked pid (item.Call pid name o)
   by_acts name s next (policed p2 alone ends) = policed_so turn lib name s next o p2 all2 alone ends

@@ -1,6 +1,6 @@
 -- A call in the midst of all processes, step by step: its policy, then what reaches others, then what it does by itself.
 use Rattle.zl_calls.proofs.Common.{Acted, CallActs, CallInstr, CalledAmong, CallsNext, IfNone, IfSome, IsReachedBy, IsSome, IsTrue, Library, List, None}
-use Rattle.zl_calls.proofs.Common.{Objects, Option, Outcome, Parts, Policed, Process, Reaches, Site, Some, acts, ap, false≢true, get_or, is_sorted, length, map}
+use Rattle.zl_calls.proofs.Common.{Objects, Option, Outcome, Reach, Policed, Process, Reaches, Site, Some, acts, ap, false≢true, get_or, is_sorted, length, map}
 use Rattle.zl_calls.proofs.Common.{nat_cmp, parts, process_entry, refl, same_Some, set, site_of, slice_get, slice_get-get_or, subst, sym, verdict_on, ℕ, ◌<◌}
 use Rattle.zl_calls.proofs.Common.{◌∙◌, ◌≡◌}
 use Rattle.zl_calls.specs.Reaching.{policed, reaches}
@@ -26,7 +26,7 @@ module _ (lib : Library) (ps : List Process) (r : Objects) (b : List ℕ) (place
   of_caller P here caller at = subst P (same_Some p caller (sym is_there ∙ at)) here
 
   module _ (call : CallInstr) (has_site : (caller : Process) → slice_get ps place ≡ Some caller → IsSome (site_of call caller.cpu)) where
-    abbrev Done : Outcome → Parts → Process → Type 0
+    abbrev Done : Outcome → Reach → Process → Type 0
     Done o all2 q = IsReachedBy (site_of call q.cpu) (λ s. CallActs lib place q s (parts ps r b) o all2)
 
     pub policed_acts : (o : Outcome) (p2 : Process) (r2 : Objects) → IfSome (site_of call p.cpu) (λ s. Policed s p r o p2 r2) → (caller : Process)
@@ -53,7 +53,7 @@ module _ (lib : Library) (ps : List Process) (r : Objects) (b : List ℕ) (place
 
     -- the policy says nothing
     module _ (none : IfSome (site_of call p.cpu) (λ s. verdict_on p.table.entries r.objects p.pid s.request ≡ None)) where
-      pub reached_acts : (ps1 : List Process) (r1 : Objects) → ps1 ≡ ps → r1 ≡ r → (o : Outcome) (all2 : Parts)
+      pub reached_acts : (ps1 : List Process) (r1 : Objects) → ps1 ≡ ps → r1 ≡ r → (o : Outcome) (all2 : Reach)
           → ((caller : Process) → slice_get ps1 place ≡ Some caller
           → IsReachedBy (site_of call caller.cpu) (λ s. Reaches lib place caller s (parts ps1 r1 b) o all2))
           → (caller : Process) → slice_get ps place ≡ Some caller → Done o all2 caller
@@ -81,7 +81,7 @@ module _ (lib : Library) (ps : List Process) (r : Objects) (b : List ℕ) (place
           by_site (Some s) none acted = acts p2 none (record { processes = refl; blocked = refl }) acted
 
   -- the call that stands next is done so
-  pub called_among : (call : CallInstr) (o : Outcome) (all2 : Parts) → CallsNext lib p call
+  pub called_among : (call : CallInstr) (o : Outcome) (all2 : Reach) → CallsNext lib p call
       → ((caller : Process) → slice_get ps place ≡ Some caller → IsReachedBy (site_of call caller.cpu) (λ s. CallActs lib place caller s (parts ps r b) o all2))
       → (caller : Process) → slice_get ps place ≡ Some caller → CalledAmong lib place caller (parts ps r b) call.name o all2
   called_among call o all2 next done = of_caller (λ q. CalledAmong lib place q (parts ps r b) call.name o all2)

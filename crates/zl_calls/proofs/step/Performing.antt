@@ -1,6 +1,6 @@
 -- A process of the world acts by itself: from the list of processes to the relation of steps, up to where processes wake.
 use Rattle.zl_calls.proofs.Common.{Acted, AreBlocked, AreLeft, AtCall, BodyValue, CallName, DoesNext, DoesOwn, Ends, IsActed, IsConsistent, IsOwnDone, IsSound}
-use Rattle.zl_calls.proofs.Common.{IsStuck, IsTrue, KeepSleepers, Library, List, Map, Moves, None, ObjectValue, Objects, Option, Outcome, Parts, Process}
+use Rattle.zl_calls.proofs.Common.{IsStuck, IsTrue, KeepSleepers, Library, List, Map, Moves, None, ObjectValue, Objects, Option, Outcome, Reach, Process}
 use Rattle.zl_calls.proofs.Common.{ProcessBody, ProcessValue, Ready, STUCK, Settles, Site, Some, State, TraceItem, ap, body_in, call_here, cases_Bool, false}
 use Rattle.zl_calls.proofs.Common.{false≢true, free_at, free_entry, get, get_or, get_or_from_slice_get, has_key, has_seen, inl, inr, is_blocked, is_blocking}
 use Rattle.zl_calls.proofs.Common.{is_process, is_ready, is_some, length, lives, map, next_for, next_looks, none-some, object_entry, on_process, own_beside}
@@ -61,11 +61,11 @@ object_there ps r blocked sound k living = by_process (get (map process_entry ps
         sym (has_seen r.objects k) ∙ by_object (get (map object_entry r.objects) k) (ProcessBody own.job) own.there
 
 -- where the call has left these parts
-pub left_as : {lib : Library} {ps : List Process} {r : Objects} {blocked : List ℕ} {pid : ℕ} {x : TraceItem} (all2 : Parts) (after : List Process)
+pub left_as : {lib : Library} {ps : List Process} {r : Objects} {blocked : List ℕ} {pid : ℕ} {x : TraceItem} (all2 : Reach) (after : List Process)
     (r2 : Objects) (blocked2 : List ℕ) → all2.processes ≡ after → all2.objects ≡ r2 → all2.blocked ≡ blocked2
     → HasLeft lib ps after r r2 blocked blocked2 pid x → HasLeft lib ps all2.processes r all2.objects blocked all2.blocked pid x
 left_as {lib} {ps} {r} {blocked} {pid} {x} all2 after r2 blocked2 processes objects list left =
-    subst (λ (all : Parts). HasLeft lib ps all.processes r all.objects blocked all.blocked pid x)
+    subst (λ (all : Reach). HasLeft lib ps all.processes r all.objects blocked all.blocked pid x)
     (λ i. parts (sym processes i) (sym objects i) (sym list i)) left
 
 -- the process p stands at the place, under the pid

@@ -1,5 +1,5 @@
 -- What a step tells of who became ready: who woke, and whom it started.
-use Rattle.zl_calls.proofs.Common.{CallName, CalledAmong, Library, List, Machine, None, NotesNextChild, NotesStarted, Objects, Option, Outcome, Parts, Process}
+use Rattle.zl_calls.proofs.Common.{CallName, CalledAmong, Library, List, Machine, None, NotesNextChild, NotesStarted, Objects, Option, Outcome, Reach, Process}
 use Rattle.zl_calls.proofs.Common.{ProcessValue, Some, StepsAndTells, StepsAndWakes, Taken, TraceItem, Woke, ap, calls_at, child_next, get, get_or, if_started}
 use Rattle.zl_calls.proofs.Common.{is_local, next_for, position, process_value, refl, same_Some, subst, sym, true, world_blocked, ℕ, ◌==◌, ◌∙◌}
 use Rattle.zl_calls.proofs.Common.{◌≡◌}
@@ -24,7 +24,7 @@ same_started pid _ o a b same = refl
 
 -- a call that was done notes whom it started
 pub call_notes : (lib : Library) (ps : List Process) (r : Objects) (blocked : List ℕ) (pid place : ℕ) (p : Process)
-    → Some place ≡ position (λ q. q.pid == pid) ps → p ≡ get_or ps place p → (all all2 : Parts) (n : CallName) (o : Outcome) (t : Taken)
+    → Some place ≡ position (λ q. q.pid == pid) ps → p ≡ get_or ps place p → (all all2 : Reach) (n : CallName) (o : Outcome) (t : Taken)
     → CalledAmong lib place p all n o all2 → NotesNextChild lib p n t → NotesStarted lib (world_blocked ps r blocked) pid (item.Call pid n o) t
 call_notes lib ps r blocked pid place p found read all all2 n o t called noted q at =
     subst (λ (x : ProcessValue). if_started (item.Call pid n o) (child_next x.handles (next_for lib x)) ≡ if_started (item.Call pid n o) (Some t.started))
@@ -54,7 +54,7 @@ module _ (lib : Library) (ps : List Process) (r : Objects) (blocked : List ℕ) 
       (sym (same_Some (process_value p) q (sym (stands_there ps pid place p found read) ∙ at)))
 
   -- a call that was done lists it
-  pub kill_notes : (all all2 : Parts) (n : CallName) (o : Outcome) (t : Taken) → CalledAmong lib place p all n o all2 → NotesNextTask lib p r n t
+  pub kill_notes : (all all2 : Reach) (n : CallName) (o : Outcome) (t : Taken) → CalledAmong lib place p all n o all2 → NotesNextTask lib p r n t
       → TellsKilled lib (world_blocked ps r blocked) pid (Some t.killed)
   kill_notes all all2 n o t called noted q at task is =
       noted (Some called.site) next

@@ -1,7 +1,7 @@
 -- Behind a call that ends no process each registered wait is left, or its caller made it by a handle that the call took.
 use Rattle.zl_calls.proofs.Common.{Acts, ActsHere, All, All-append, All-cons, All-contains, All-filter, All-nil, AreKnown, AtCall, Bool, CallActs, CallName}
 use Rattle.zl_calls.proofs.Common.{CalledAmong, Contains, Does, DoesNext, DoesOwn, EndsBy, EndsUnheld, Entry, Err, Handles, IsKnown, IsNoted, IsTrue}
-use Rattle.zl_calls.proofs.Common.{KeepsListed, Library, List, ListsBut, None, NotesNext, Objects, Ok, Option, Outcome, Parts, Process, ProcessCreateDoes}
+use Rattle.zl_calls.proofs.Common.{KeepsListed, Library, List, ListsBut, None, NotesNext, Objects, Ok, Option, Outcome, Reach, Process, ProcessCreateDoes}
 use Rattle.zl_calls.proofs.Common.{ProcessStartDoes, ProcessValue, Request, Result, Site, Some, Status, Taken, TraceItem, Verdict, WAIT, Wait, World, []}
 use Rattle.zl_calls.proofs.Common.{action_asked, acts, and_from, and_parts, ap, arith, asks_again, calls_at, cases_Bool, chan_write, chan_write_slots, close}
 use Rattle.zl_calls.proofs.Common.{creates_process, entry_at, false, false≢true, get, handle_operands, handles_in, has_handle, has_key, has_noted, has_seen}
@@ -70,7 +70,7 @@ goes_on _ o plain = plain
 
 -- the process p stands at the place, under the pid, and is at the call
 module _ {ps : List Process} {r : Objects} {blocked : List ℕ} {pid place : ℕ} {p : Process} (turn : AtTurn ps r blocked pid place p) (lib : Library)
-    (all2 : Parts) (o : Outcome) (present : AreThere all2.objects) where
+    (all2 : Reach) (o : Outcome) (present : AreThere all2.objects) where
   -- what is so of each wait before a call, and of one that it registers, is so of each behind it
   module _ (P : Wait → Type 0) (before : All P r.waits) where
     -- so is it of one that the request registers by the handle e at the value h
@@ -84,15 +84,15 @@ module _ {ps : List Process} {r : Objects} {blocked : List ℕ} {pid place : ℕ
     kept_all : (r2 : Objects) → all2.objects ≡ r2 → KeepsListed r r2 → All P all2.objects.waits
     kept_all r2 is keeps = lists_all P r.waits r.waits_made r all2.objects (subst (ListsBut r.waits r.waits_made r) (sym is) keeps.listed) present before
 
-    started_all : (process h word : ℕ) (answer : Result ⊤ Status) (between : Parts) → all2.objects ≡ between.objects
+    started_all : (process h word : ℕ) (answer : Result ⊤ Status) (between : Reach) → all2.objects ≡ between.objects
         → ProcessStartDoes lib place process h word p (parts ps r blocked) answer between → All P all2.objects.waits
     started_all process h word (Ok done) between is does = same_all (ap (λ (x : Objects). x.waits) (is ∙ does.ok.objects))
     started_all process h word (Err s) between is does = kept_all between.objects is does.refused.closes.listed
 
-    created_all : (job program : ℕ) (answer : Result ℕ Status) (between : Parts) → all2.objects ≡ between.objects
+    created_all : (job program : ℕ) (answer : Result ℕ Status) (between : Reach) → all2.objects ≡ between.objects
         → ProcessCreateDoes lib place job program p (parts ps r blocked) answer between → All P all2.objects.waits
     created_all job program (Ok made) between is does = same_all (ap (λ (x : Objects). x.waits) (is ∙ does.ok.makes.objects))
-    created_all job program (Err s) between is does = same_all (ap (λ (x : Objects). x.waits) (is ∙ ap (λ (all : Parts). all.objects) does.refused))
+    created_all job program (Err s) between is does = same_all (ap (λ (x : Objects). x.waits) (is ∙ ap (λ (all : Reach). all.objects) does.refused))
 
     does_all : {A : Type 0} (Done : A → Handles → Objects → Type 0) (wants : Status → Bool) (refusal : Option Status) (t t2 : Handles)
         (answer : Result A Status) → Does Done wants refusal t r answer t2 all2.objects → ((x : A) → Done x t2 all2.objects → All P all2.objects.waits)

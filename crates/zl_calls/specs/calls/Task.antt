@@ -40,13 +40,13 @@ use Rattle.zl_calls.specs.declared.calls.process.Started.{Started}
 -- ---- all that such a call can reach
 
 -- the processes of a world with its objects, and the list of those that are blocked
-pub record Parts : Type 0 where
+pub record Reach : Type 0 where
   pub processes : List Process
   pub objects : Objects
   pub blocked : List ℕ
 
 -- the same, by its parts
-abbrev pub parts : List Process → Objects → List ℕ → Parts
+abbrev pub parts : List Process → Objects → List ℕ → Reach
 parts processes objects blocked = record { processes = processes; objects = objects; blocked = blocked }
 
 -- there is such a call, and this is true of its site
@@ -59,7 +59,7 @@ abbrev pub with_caller : List Process → ℕ → Process → List Process
 with_caller processes place p = slice_set processes place p
 
 -- the process at the place, the caller, is this one; all of it but its table stays
-pub record IsCaller (all : Parts) (place : ℕ) (caller after : Process) : Type 0 where
+pub record IsCaller (all : Reach) (place : ℕ) (caller after : Process) : Type 0 where
   pub is_there : slice_get all.processes place ≡ Some caller
   pub same : after ≡ record caller { table = after.table }
 
@@ -84,7 +84,7 @@ pub record EndsOrAnswers (status : ℕ) (answer : Result ⊤ Status) (p : Proces
   pub told : p2 ≡ told_unless_over status answer p.state p
 
 -- such a call was done, or else it was refused
-pub record Tries {A : Type 0} (Done : A → Parts → Type 0) (Refuses : Parts → Type 0) (wants : Status → Bool) (refusal : Option Status) (answer : Result A Status) (all2 : Parts) : Type 0 where
+pub record Tries {A : Type 0} (Done : A → Reach → Type 0) (Refuses : Reach → Type 0) (wants : Status → Bool) (refusal : Option Status) (answer : Result A Status) (all2 : Reach) : Type 0 where
   pub ok : IfOk answer (λ x. Done x all2)
   pub err : IfErr answer (IsRefusedBy wants refusal)
   pub refused : OnErr answer (Refuses all2)
@@ -110,7 +110,7 @@ abbrev pub create_refusal : Library → Map Entry → Objects → (job program :
 create_refusal lib entries r job program = create_refusal_of lib entries r program (looked_up entries job (kind.Job ∷ []) MANAGE_PROCESS)
 
 -- a process that runs the program was made in the job of the handle, and the caller's handle to it gets the value made
-pub record CreatesProcess (lib : Library) (all : Parts) (place job program made : ℕ) (all2 : Parts) : Type 0 where
+pub record CreatesProcess (lib : Library) (all : Reach) (place job program made : ℕ) (all2 : Reach) : Type 0 where
   pub caller : Process
   pub after : Process
   pub is_caller : IsCaller all place caller after
@@ -127,7 +127,7 @@ pub record CreatesProcess (lib : Library) (all : Parts) (place job program made 
   pub blocked : all2.blocked ≡ all.blocked
 
 -- process_create by the process at the place; where it is refused nothing changes
-abbrev pub ProcessCreateDoes : Library → (place job program : ℕ) → (caller : Process) → Parts → Result ℕ Status → Parts → Type 0
+abbrev pub ProcessCreateDoes : Library → (place job program : ℕ) → (caller : Process) → Reach → Result ℕ Status → Reach → Type 0
 ProcessCreateDoes lib place job program caller all =
     Tries (CreatesProcess lib all place job program) (λ all2. all2 ≡ all) wants_memory (create_refusal lib caller.table.entries all.objects job program)
 
@@ -180,7 +180,7 @@ pub record Enters (lib : Library) (processes : List Process) (caller : Process) 
   pub entered : processes2 ≡ with_caller processes started.place child
 
 -- the process of the first handle is ready, with the second handle in its table, at a value that it finds in register 0, and with the word in register 1
-pub record StartsProcess (lib : Library) (all : Parts) (place process h word : ℕ) (all2 : Parts) : Type 0 where
+pub record StartsProcess (lib : Library) (all : Reach) (place process h word : ℕ) (all2 : Reach) : Type 0 where
   pub caller : Process
   pub after : Process
   pub is_caller : IsCaller all place caller after
@@ -205,7 +205,7 @@ pub record StartsProcess (lib : Library) (all : Parts) (place process h word : �
   pub blocked : all2.blocked ≡ all.blocked
 
 -- the handle of the process at the place closed, if there was one, and nothing else changed
-pub record ClosesHandle (all : Parts) (place h : ℕ) (all2 : Parts) : Type 0 where
+pub record ClosesHandle (all : Reach) (place h : ℕ) (all2 : Reach) : Type 0 where
   pub caller : Process
   pub after : Process
   pub is_caller : IsCaller all place caller after
@@ -214,7 +214,7 @@ pub record ClosesHandle (all : Parts) (place h : ℕ) (all2 : Parts) : Type 0 wh
   pub blocked : all2.blocked ≡ all.blocked
 
 -- process_start by the process at the place; where it is refused the handle closes
-abbrev pub ProcessStartDoes : Library → (place process h word : ℕ) → (caller : Process) → Parts → Result ⊤ Status → Parts → Type 0
+abbrev pub ProcessStartDoes : Library → (place process h word : ℕ) → (caller : Process) → Reach → Result ⊤ Status → Reach → Type 0
 ProcessStartDoes lib place process h word caller all =
     Tries (λ _. StartsProcess lib all place process h word) (ClosesHandle all place h) wants_memory (start_refusal lib all.processes caller.table.entries process h)
 
@@ -246,7 +246,7 @@ pub data ClosesAllEnded : List Process → Objects → List Process → Objects 
       → ClosesEnded p r p2 mid → ClosesAllEnded ps mid ps2 r2 → ClosesAllEnded (p ∷ ps) r (p2 ∷ ps2) r2
 
 -- the task was killed, and all that stands below it: jobs are dead, processes have ended, and their handles closed
-pub record KillsTask (all : Parts) (task : ℕ) (all2 : Parts) : Type 0 where
+pub record KillsTask (all : Reach) (task : ℕ) (all2 : Reach) : Type 0 where
   -- the objects, before handles close
   pub between : Objects
   pub marks : Releases [] (all_koids all.objects.objects) (killing all.objects task) between
@@ -256,11 +256,11 @@ pub record KillsTask (all : Parts) (task : ℕ) (all2 : Parts) : Type 0 where
   pub listed : KeepsListed all.objects between
 
 -- the task that the handle names was killed so
-pub record KillsNamed (all : Parts) (caller : Process) (task : ℕ) (all2 : Parts) : Type 0 where
+pub record KillsNamed (all : Reach) (caller : Process) (task : ℕ) (all2 : Reach) : Type 0 where
   pub named : Entry
   pub is_named : looked_up caller.table.entries task (kind.Process ∷ kind.Job ∷ []) DESTROY ≡ Ok named
   pub kills : KillsTask all named.koid all2
 
 -- task_kill by the caller; it never wants memory, and where it is refused nothing changes
-abbrev pub TaskKillDoes : (task : ℕ) → (caller : Process) → Parts → Result ⊤ Status → Parts → Type 0
+abbrev pub TaskKillDoes : (task : ℕ) → (caller : Process) → Reach → Result ⊤ Status → Reach → Type 0
 TaskKillDoes task caller all = Tries (λ _. KillsNamed all caller task) (λ all2. all2 ≡ all) wants_nothing (kill_refusal caller.table.entries task)

@@ -13,11 +13,12 @@ ghost use Rattle.zl_objects.specs.Release.{AreKeptBut};
 ghost use Rattle.zl_calls.specs.Blocked.{AreBlocked};
 ghost use Rattle.zl_calls.specs.Killing.{AreClosed, AreClosedBut, StandsBefore, StayBlocked, ended_among};
 ghost use Rattle.zl_calls.specs.World.{process_entry, state_value};
-ghost use Rattle.zl_calls.specs.Calling.{AtPlace, parts_in};
+ghost use Rattle.zl_calls.specs.Calling.{AtPlace, KeepsRoom, parts_in};
 ghost use Rattle.zl_calls.specs.calls.Task.{ClosesAllEnded, ClosesEnded, IsCallerStill, TaskKillDoes, ended_within};
 
 use crate::calls::look_up;
 use crate::calls::process::close_all;
+use crate::parts::Parts;
 use crate::process::{Process, State};
 use crate::processes::Processes;
 use std::alloc::Global;
@@ -36,26 +37,29 @@ const KILLED: i32 = -1024;
 /// Source: the page "zx_task_kill" of the Fuchsia documentation; the code is own profile.
 pub fn task_kill<const TESTED: bool>(
     alloc: Global,
-    processes: &mut Processes,
-    objects: &mut Objects,
-    blocked: &mut Vec<Pid>,
+    parts: &mut Parts,
     place: usize,
     task: u64,
 ) -> Result<(), Status>
-    requires place { place < length processes.old.list.items }
-    requires kept { AreKeptBut [] objects.old.objects }
-    requires list { AreBlocked processes.old.list.items blocked.old.items }
-    requires closed { AreClosed processes.old.list.items }
-    requires sure { TESTED ≡ false → AtPlace processes.old place (λ caller.
+    requires place { place < length parts.old.processes.list.items }
+    requires kept { AreKeptBut [] parts.old.objects.objects }
+    requires list { AreBlocked parts.old.processes.list.items parts.old.blocked.items }
+    requires closed { AreClosed parts.old.processes.list.items }
+    requires sure { TESTED ≡ false → AtPlace parts.old.processes place (λ caller.
         IsOk (looked_up caller.table.entries task (Kind.Process ∷ Kind.Job ∷ []) DESTROY)) }
-    ensures does { AtPlace processes.old place (λ caller. TaskKillDoes task caller
-        (parts_in processes.old objects.old blocked.old) result
-        (parts_in processes.new objects.new blocked.new)) }
-    ensures caller { AtPlace processes.old place (λ caller.
-        IsCallerStill caller (slice_get processes.new.list.items place)) }
-    ensures count { length processes.new.list.items ≡ length processes.old.list.items }
-    ensures capacity { vec_capacity blocked.new ≡ vec_capacity blocked.old }
+    ensures does { AtPlace parts.old.processes place (λ caller.
+        TaskKillDoes task caller (parts_in parts.old) result (parts_in parts.new)) }
+    ensures caller { AtPlace parts.old.processes place (λ caller.
+        IsCallerStill caller (slice_get parts.new.processes.list.items place)) }
+    ensures room { KeepsRoom parts.old parts.new }
+    ensures taken { parts.new.taken ≡ parts.old.taken }
 {
+    let Parts {
+        processes,
+        objects,
+        blocked,
+        ..
+    } = parts;
     let task = look_up::<TESTED>(
         &processes.list[place].table,
         task,

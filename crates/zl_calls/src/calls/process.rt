@@ -15,10 +15,11 @@ ghost use Rattle.zl_calls.specs.Registered.{EndsOwn};
 ghost use Rattle.zl_calls.specs.Calling.{AreGiven, AtPlace, IsCalling, KeepsRoom, parts_in};
 ghost use Rattle.zl_calls.specs.calls.Answer.{IsRefusedBy, wants_memory};
 ghost use Rattle.zl_calls.specs.calls.Process.{Drained, Ends};
-ghost use Rattle.zl_calls.specs.calls.Task.{Enters, IsCallerStill, IsCreatedAt, IsFound, ProcessCreateDoes, ProcessStartDoes, child_refusal, create_refusal, needs_more, parts, process_at, start_refusal};
+ghost use Rattle.zl_calls.specs.calls.Task.{Enters, IsCallerStill, IsCreatedAt, IsFound, ProcessCreateDoes, ProcessStartDoes, child_refusal, create_refusal, needs_more, process_at, start_refusal};
 
 use crate::calls::handle::{close_each, take_out};
 use crate::calls::{check_room, insert, look_up, make_object};
+use crate::parts::Parts;
 use crate::process::{Process, State};
 use crate::processes::Processes;
 use crate::waits::end_made_at;
@@ -49,6 +50,13 @@ pub fn signed_word(value: u64) -> i32
     low.cast_signed()
 }
 
+/// What a process is to be made of: the caller's handle of a job, and the number of a program.
+#[derive(Clone, Copy)]
+pub struct NewProcess {
+    pub job: u64,
+    pub program: u64,
+}
+
 /// Makes a process of the program with this number in the job of the caller's handle, and gives the
 /// caller a handle with the default rights. It has no handles, and isn't started.
 ///
@@ -61,24 +69,27 @@ pub fn signed_word(value: u64) -> i32
 pub fn process_create<const TESTED: bool>(
     alloc: Global,
     library: &Library,
-    processes: &mut Processes,
-    objects: &mut Objects,
-    blocked: &mut Vec<Pid>,
+    parts: &mut Parts,
     place: usize,
-    job: u64,
-    program: u64,
+    new: NewProcess,
 ) -> Result<HValue, Status>
-    requires place { place < length processes.old.list.items }
-    requires few { length blocked.old.items ≤ length processes.old.list.items }
-    requires given { AreGiven (parts_in processes.old objects.old blocked.old) }
-    requires sure { TESTED ≡ false → AtPlace processes.old place (λ caller.
-        IsOk (looked_up caller.table.entries job (Kind.Job ∷ []) MANAGE_PROCESS)) }
-    ensures does { AtPlace processes.old place (λ caller.
-        ProcessCreateDoes library.now place job program caller
-        (parts_in processes.old objects.old blocked.old) result
-        (parts_in processes.new objects.new blocked.new)) }
-    ensures room { KeepsRoom processes.old blocked.old processes.new blocked.new }
+    requires place { place < length parts.old.processes.list.items }
+    requires few { length parts.old.blocked.items ≤ length parts.old.processes.list.items }
+    requires given { AreGiven (parts_in parts.old) }
+    requires sure { TESTED ≡ false → AtPlace parts.old.processes place (λ caller.
+        IsOk (looked_up caller.table.entries new.job (Kind.Job ∷ []) MANAGE_PROCESS)) }
+    ensures does { AtPlace parts.old.processes place (λ caller. ProcessCreateDoes library.now place
+        new.job new.program caller (parts_in parts.old) result (parts_in parts.new)) }
+    ensures room { KeepsRoom parts.old parts.new }
+    ensures taken { parts.new.taken ≡ parts.old.taken }
 {
+    let Parts {
+        processes,
+        objects,
+        blocked,
+        ..
+    } = parts;
+    let NewProcess { job, program } = new;
     let table = &processes.list[place].table;
     let (job, image) = find_job::<TESTED>(library, table, objects, job, program)?;
     let Ok(cpu) = prepare(alloc, image, processes, blocked) else {
@@ -120,7 +131,8 @@ fn prepare(
         (length processes.new.unstarted.items < vec_capacity processes.new.unstarted) }
     ensures room { OnOk result
         (length processes.old.list.items + 1 ≤ vec_capacity blocked.new) }
-    ensures kept { KeepsRoom processes.old blocked.old processes.new blocked.new }
+    ensures kept { length processes.old.list.items ≤ vec_capacity blocked.old
+        → length processes.new.list.items ≤ vec_capacity blocked.new }
     ensures same_processes { processes.new.list.items ≡ processes.old.list.items }
     ensures same_blocked { blocked.new.items ≡ blocked.old.items }
 {
@@ -192,6 +204,14 @@ fn allows(objects: &Objects, job: Koid, condition: Condition) -> bool
     matches!(objects.action(job, condition), Action::Allow)
 }
 
+/// What a process is to be started with: the caller's handle of it, the one that it gets, and a word.
+#[derive(Clone, Copy)]
+pub struct StartOf {
+    pub process: u64,
+    pub handle: u64,
+    pub word: u64,
+}
+
 /// Starts the process of the caller's first handle with the second one, which enters its table, and
 /// with the word. However it is answered, the second handle has left the caller's table.
 ///
@@ -203,26 +223,33 @@ fn allows(objects: &Objects, job: Koid, condition: Condition) -> bool
 /// order are own profile.
 pub fn process_start<const TESTED: bool>(
     library: &Library,
-    processes: &mut Processes,
-    objects: &mut Objects,
+    parts: &mut Parts,
     place: usize,
-    process: u64,
-    handle: u64,
-    word: u64,
+    start: StartOf,
 ) -> Result<(), Status>
-    requires calling { IsCalling processes.old.list.items place }
-    requires process { TESTED ≡ false → AtPlace processes.old place (λ caller.
-        IsOk (looked_up caller.table.entries process (Kind.Process ∷ []) WRITE)) }
-    requires handle { TESTED ≡ false → AtPlace processes.old place (λ caller.
-        IsOk (looked_up caller.table.entries handle [] TRANSFER)) }
-    ensures does { (blocked : List ℕ) → AtPlace processes.old place (λ caller.
-        ProcessStartDoes library.now place process handle word caller
-        (parts processes.old.list.items objects.old blocked) result
-        (parts processes.new.list.items objects.new blocked)) }
-    ensures caller { AtPlace processes.old place (λ caller.
-        IsCallerStill caller (slice_get processes.new.list.items place)) }
-    ensures count { length processes.new.list.items ≡ length processes.old.list.items }
+    requires calling { IsCalling parts.old.processes.list.items place }
+    requires process { TESTED ≡ false → AtPlace parts.old.processes place (λ caller.
+        IsOk (looked_up caller.table.entries start.process (Kind.Process ∷ []) WRITE)) }
+    requires handle { TESTED ≡ false → AtPlace parts.old.processes place (λ caller.
+        IsOk (looked_up caller.table.entries start.handle [] TRANSFER)) }
+    ensures does { AtPlace parts.old.processes place (λ caller.
+        ProcessStartDoes library.now place start.process start.handle start.word caller
+        (parts_in parts.old) result (parts_in parts.new)) }
+    ensures caller { AtPlace parts.old.processes place (λ caller.
+        IsCallerStill caller (slice_get parts.new.processes.list.items place)) }
+    ensures room { KeepsRoom parts.old parts.new }
+    ensures taken { parts.new.taken ≡ parts.old.taken }
 {
+    let Parts {
+        processes,
+        objects,
+        ..
+    } = parts;
+    let StartOf {
+        process,
+        handle,
+        word,
+    } = start;
     match enter::<TESTED>(library, processes, place, process, handle) {
         Ok(started) => {
             take_out(&mut processes.list[place].table, handle);

@@ -3,7 +3,7 @@ use Rattle.zl_rights.specs.declared.kind.Kind.TheVariants as kind
 use Rattle.zl_code.specs.declared.history.CallName.TheVariants as name
 use Rattle.zl_calls.proofs.policy.Faultless.{faultless_at}
 use Rattle.zl_calls.proofs.tables.Granted.{closes_well, finds, is_live, second}
-use Rattle.zl_calls.proofs.parts.act.Goals as goal
+use Rattle.zl_calls.proofs.parts.act_alone.Goals as goal
 
 pub close-answer-requires : goal.close-answer-requires
 unfolding handle_operands operands_fault

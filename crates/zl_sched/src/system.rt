@@ -193,8 +193,9 @@ impl System {
         let Some((item, told)) = self.world.step(pid) else {
             return Stepped::NotReady;
         };
-        self.items.push(item).unwrap();
+        // First, so that nothing told is kept meanwhile: mostly it is that nothing changed.
         move_on(&mut self.ready, &self.out, &mut self.world, pid, told);
+        self.items.push_reserved(item);
         Stepped::Ran
     }
 

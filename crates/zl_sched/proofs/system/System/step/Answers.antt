@@ -43,7 +43,7 @@ invariant_of-self-2 c =
     let fits = queue_room before c.self.invariant.0 c.args.pid unmarked c.step.new.self c.in-Some.item did.takes in
     rw c.move_on.ensures.world (
       still_whole before c.self.invariant.0 c.args.pid unmarked c.step.new.self c.in-Some.item did.takes
-          (c.in-Some.ensures {u = tt}).own c.push.new.self.items c.move_on.new.ready.items
+          (c.in-Some.ensures {u = tt}).own c.push_reserved.new.self.items c.move_on.new.ready.items
           (search rules) (omega (arith, c.if-len-self.false, c.len.ensures, c.self.inside.items.ok.0)) queue,
       omega (arith, room, fits, ap length queue, c.move_on.ensures.capacity),
     )
@@ -58,6 +58,6 @@ returns c =
     let queue : c.move_on.new.ready.items ≡ queued_after before.machine.world c.args.pid c.step.new.self.world before.ready
     = by_requeue before c.self.invariant.0 c.args.pid unmarked c.step.new.self c.in-Some.item did.takes c.move_on.new.ready.items is in
     rw (← c.self.view_is, c.move_on.ensures.world)
-    (step_told before c.args.pid unmarked c.step.new.self c.push.new.self.items c.move_on.new.ready.items c.in-Some.item did.takes
+    (step_told before c.args.pid unmarked c.step.new.self c.push_reserved.new.self.items c.move_on.new.ready.items c.in-Some.item did.takes
     (c.in-Some.ensures {u = tt}).own
     (search rules) (omega (arith, c.if-len-self.false, c.len.ensures, c.self.inside.items.ok.0)) queue)

@@ -42,6 +42,8 @@ pub fn add_blocked(blocked: &mut Vec<Pid>, pid: Pid, effect: Effect)
 }
 
 /// The objects know what the process waits for, if it fell asleep. It takes no memory.
+// Each call asks it, and few put their process to sleep.
+#[inline(always)]
 pub fn fall_asleep(processes: &Processes, objects: &mut Objects, pid: Pid, effect: Effect)
     ensures { FallsAsleep processes.now.list.items pid (is_asleep effect) objects.old objects.new }
 {

@@ -1,7 +1,8 @@
 -- The calls that reach other processes, from what they do to how they are answered.
 use Rattle.zl_calls.proofs.Common.{Bool, CreatesProcess, EndsOrAnswers, Err, HasBegun, IsAnsweredIn, IsCallerStill, Library, List, None, Objects, Ok, Option}
 use Rattle.zl_calls.proofs.Common.{Outcome, Reach, Process, ProcessCreateDoes, ProcessStartDoes, Reaches, Result, Site, Some, State, Status, TaskKillDoes, []}
-use Rattle.zl_calls.proofs.Common.{answered_in, ap, cpu_answered, creates_process, ending_of, false, false≢true, get_or, is_created, is_ready, kills}
+use Rattle.zl_calls.proofs.Common.{answered_in, ap, cpu_answered, creates_process, ending_of, false, false≢true, get_or, get_or_from_slice_get, is_created}
+use Rattle.zl_calls.proofs.Common.{is_ready, kills}
 use Rattle.zl_calls.proofs.Common.{kills_itself, length, no_value, none-some, one_value, parts, process_create, process_start, refl, register_set, same_Some}
 use Rattle.zl_calls.proofs.Common.{site, slice_get, slice_get_within, slice_set, starts, state_value, status_of, subst, suc, sym, task_kill, told_by}
 use Rattle.zl_calls.proofs.Common.{told_unless_over, true, values_of, zero, ℕ, ℤ, ⊤, ◌++◌, ◌<◌, ◌^◌, ◌∙◌, ◌∷◌, ◌≡◌}
@@ -18,6 +19,10 @@ still_within ps place caller still = by_value (slice_get ps place) refl still
     by_value : (o : Option Process) → slice_get ps place ≡ o → IsCallerStill caller o → place < length ps
     by_value None is h = absurd h
     by_value (Some p) is h = slice_get_within ps place p is
+
+-- it is what is read at its place
+pub caller_here : (ps : List Process) (place : ℕ) (caller p : Process) → p ≡ get_or ps place p → slice_get ps place ≡ Some caller → p ≡ caller
+caller_here ps place caller p read at = read ∙ get_or_from_slice_get ps place caller p at
 
 pub counter_still : (ps : List Process) (place : ℕ) (caller p : Process) → IsCallerStill caller (slice_get ps place) → p ≡ get_or ps place p
     → caller.cpu.counter < 2 ^ 32 → p.cpu.counter < 2 ^ 32

@@ -39,7 +39,8 @@ call_next-requires c =
           c.args.library.now c.requires.verified c.requires.covered;
     }
 
-left_called : (c : goal.After-end_behind-arg-in-Some-2-1) → HasLeft c.args.library.now c.args.self.now.processes.list.items c.call_next.new.self.processes.list.items
+left_called : (c : goal.After-end_behind-arg-in-Some-2-1) → HasLeft c.args.library.now c.args.self.now.processes.list.items
+    c.call_next.new.self.processes.list.items
     c.args.self.now.objects c.call_next.new.self.objects c.args.self.now.blocked.items c.call_next.new.self.blocked.items
     c.args.pid (item.Call c.args.pid c.in-Some.call c.in-Some.outcome)
 left_called c =

@@ -46,7 +46,8 @@ returns-in-Some-clause-acts g c =
 pub reach-requires-clause-may : goal.reach-requires-clause-may
 reach-requires-clause-may g c =
     let kept : set c.args.self.now.processes.list.items c.args.place c.by_policy.new.process ≡ c.args.self.now.processes.list.items =
-    set_same c.args.self.now.processes.list.items c.args.place c.index_mut-caller.result.now c.by_policy.new.process (c.in_default.ensures {u = tt}).same_process
+    set_same c.args.self.now.processes.list.items c.args.place c.index_mut-caller.result.now c.by_policy.new.process (c.in_default.ensures {u =
+    tt}).same_process
     c.index_mut-caller.ensures.value in
     rw (kept, (c.in_default.ensures {u = tt}).same_objects) c.requires.may
 
@@ -56,13 +57,15 @@ returns-in-Some-reach-clause-acts g c =
     c.index_mut-caller.result.now
     c.requires.may.calling.within c.index_mut-caller.ensures.value c.args.call.now c.requires.there (c.in_default.ensures {u = tt}).done
     (set c.args.self.now.processes.list.items c.args.place c.by_policy.new.process) c.by_policy.new.objects
-    (set_same c.args.self.now.processes.list.items c.args.place c.index_mut-caller.result.now c.by_policy.new.process (c.in_default.ensures {u = tt}).same_process
+    (set_same c.args.self.now.processes.list.items c.args.place c.index_mut-caller.result.now c.by_policy.new.process (c.in_default.ensures {u =
+    tt}).same_process
     c.index_mut-caller.ensures.value) (c.in_default.ensures {u = tt}).same_objects c.in-Some-reach.outcome _ (c.in-Some-reach.ensures {u = tt}).reached
 
 pub act_alone-requires : goal.act_alone-requires
 act_alone-requires g c =
     let kept : set c.args.self.now.processes.list.items c.args.place c.by_policy.new.process ≡ c.args.self.now.processes.list.items =
-    set_same c.args.self.now.processes.list.items c.args.place c.index_mut-caller.result.now c.by_policy.new.process (c.in_default.ensures {u = tt}).same_process
+    set_same c.args.self.now.processes.list.items c.args.place c.index_mut-caller.result.now c.by_policy.new.process (c.in_default.ensures {u =
+    tt}).same_process
     c.index_mut-caller.ensures.value in
     let here : slice_get c.args.self.now.processes.list.items c.args.place ≡ Some c.index_mut.result.now =
     again_there c.args.library.now c.args.self.now.processes.list.items c.args.self.now.objects c.args.self.now.blocked.items c.args.place
@@ -82,14 +85,17 @@ act_alone-requires g c =
 pub returns-clause-acts : goal.returns-clause-acts
 returns-clause-acts g c =
     let same : c.reach.new.self.processes.list.items ≡ c.args.self.now.processes.list.items = (same_processes (c.in_default-reach.ensures {u = tt}).unchanged)
-    ∙ set_same c.args.self.now.processes.list.items c.args.place c.index_mut-caller.result.now c.by_policy.new.process (c.in_default.ensures {u = tt}).same_process
+    ∙ set_same c.args.self.now.processes.list.items c.args.place c.index_mut-caller.result.now c.by_policy.new.process (c.in_default.ensures {u =
+    tt}).same_process
     c.index_mut-caller.ensures.value in
-    acted_acts c.args.library.now c.args.self.now.processes.list.items c.args.self.now.objects c.args.self.now.blocked.items c.args.place c.index_mut-caller.result.now
+    acted_acts c.args.library.now c.args.self.now.processes.list.items c.args.self.now.objects c.args.self.now.blocked.items c.args.place
+    c.index_mut-caller.result.now
     c.requires.may.calling.within c.index_mut-caller.ensures.value c.args.call.now c.requires.there (c.in_default.ensures {u = tt}).done
     c.reach.new.self.processes.list.items c.reach.new.self.objects c.reach.new.self.blocked.items same
     ((same_objects (c.in_default-reach.ensures {u = tt}).unchanged) ∙ (c.in_default.ensures {u = tt}).same_objects) (same_blocked (c.in_default-reach.ensures
     {u = tt}).unchanged)
     c.index_mut.result.now (same_caller c.args.library.now c.args.self.now.processes.list.items c.args.self.now.objects c.args.self.now.blocked.items
     c.args.place
-    c.index_mut-caller.result.now c.requires.may.calling.within c.index_mut-caller.ensures.value c.reach.new.self.processes.list.items c.index_mut.result.now same
+    c.index_mut-caller.result.now c.requires.may.calling.within c.index_mut-caller.ensures.value c.reach.new.self.processes.list.items c.index_mut.result.now
+    same
     c.index_mut.ensures.value) c.act_alone.result c.act_alone.new.process c.act_alone.new.objects c.act_alone.ensures

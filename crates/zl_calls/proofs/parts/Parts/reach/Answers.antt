@@ -1,6 +1,7 @@
-use Rattle.zl_calls.proofs.Common.{IsCallerStill, None, Process, Some, TRANSFER, WRITE, [], ap, arith, common_steps, get_or_from_slice_get, handle_operands}
+use Rattle.zl_calls.proofs.Common.{IsCallerStill, None, Process, Some, TRANSFER, WRITE, [], ap, arith, common_steps, handle_operands}
 use Rattle.zl_calls.proofs.Common.{is_created, looked_up, operands_fault, parts, refl, reg, site_of, slice_get, slice_index, state_value, ◌∙◌, ◌∷◌, ◌≡◌}
-use Rattle.zl_calls.proofs.parts.ReachParts.{counter_still, create_reaches, created_still, kill_reaches, start_reaches, still_within, told_pid, told_started}
+use Rattle.zl_calls.proofs.parts.ReachParts.{caller_here, counter_still, create_reaches, created_still, kill_reaches, start_reaches, still_within, told_pid}
+use Rattle.zl_calls.proofs.parts.ReachParts.{told_started}
 use Rattle.zl_calls.proofs.parts.StartParts.{stands_at}
 use Rattle.zl_calls.proofs.processes.InOrder.{set_in_order}
 use Rattle.zl_calls.proofs.processes.Started.{set_started}
@@ -103,9 +104,7 @@ answer_unless_over-requires g c =
 pub returns-in-ProcessCreate-clause-reached : goal.returns-in-ProcessCreate-clause-reached
 unfolding site_of
 returns-in-ProcessCreate-clause-reached g c = λ caller at.
-    let same : c.index.result.now ≡ caller = c.index.ensures ∙ get_or_from_slice_get c.args.self.now.processes.list.items c.args.place caller
-    c.index.result.now at
-    in
+    let same : c.index.result.now ≡ caller = caller_here c.args.self.now.processes.list.items c.args.place caller _ c.index.ensures at in
     let job : c.register-job.result ≡ reg caller.cpu (slice_index c.args.call.now.registers 1) = grind (arith, common_steps) in
     let program : c.register-program.result ≡ reg caller.cpu (slice_index c.args.call.now.registers 2) = grind (arith, common_steps) in
     rw (c.in-ProcessCreate.is, ← job, ← program)
@@ -118,9 +117,7 @@ returns-in-ProcessCreate-clause-reached g c = λ caller at.
 pub returns-in-ProcessStart-clause-reached : goal.returns-in-ProcessStart-clause-reached
 unfolding site_of
 returns-in-ProcessStart-clause-reached g c = λ caller at.
-    let same : c.index.result.now ≡ caller = c.index.ensures ∙ get_or_from_slice_get c.args.self.now.processes.list.items c.args.place caller
-    c.index.result.now at
-    in
+    let same : c.index.result.now ≡ caller = caller_here c.args.self.now.processes.list.items c.args.place caller _ c.index.ensures at in
     let process : c.register-process.result ≡ reg caller.cpu (slice_index c.args.call.now.registers 1) = grind (arith, common_steps) in
     let handle : c.register-handle.result ≡ reg caller.cpu (slice_index c.args.call.now.registers 2) = grind (arith, common_steps) in
     let word : c.register-word.result ≡ reg caller.cpu (slice_index c.args.call.now.registers 3) = grind (arith, common_steps) in
@@ -132,9 +129,7 @@ returns-in-ProcessStart-clause-reached g c = λ caller at.
 pub returns-in-TaskKill-clause-reached : goal.returns-in-TaskKill-clause-reached
 unfolding site_of
 returns-in-TaskKill-clause-reached g c = λ caller at.
-    let same : c.index.result.now ≡ caller = c.index.ensures ∙ get_or_from_slice_get c.args.self.now.processes.list.items c.args.place caller
-    c.index.result.now at
-    in
+    let same : c.index.result.now ≡ caller = caller_here c.args.self.now.processes.list.items c.args.place caller _ c.index.ensures at in
     let task : c.register-task.result ≡ reg caller.cpu (slice_index c.args.call.now.registers 1) = grind (arith, common_steps) in
     rw (c.in-TaskKill.is, ← task)
     (kill_reaches _ _ _ _ _ _ _ _ _ at _ c.index_mut-in-TaskKill.ensures.value (c.task_kill-answer.ensures.caller caller at) _ _ (c.requires.may.calling.ready
@@ -144,9 +139,7 @@ returns-in-TaskKill-clause-reached g c = λ caller at.
 pub process_create-made-requires-clause-sure : goal.process_create-made-requires-clause-sure
 unfolding site_of handle_operands operands_fault
 process_create-made-requires-clause-sure g c = λ no caller at.
-    let same : c.index.result.now ≡ caller = c.index.ensures ∙ get_or_from_slice_get c.args.self.now.processes.list.items c.args.place caller
-    c.index.result.now at
-    in
+    let same : c.index.result.now ≡ caller = caller_here c.args.self.now.processes.list.items c.args.place caller _ c.index.ensures at in
     let job : c.register-job.result ≡ reg caller.cpu (slice_index c.args.call.now.registers 1) = grind (arith, common_steps) in
     rw job (finds _ None (faultless_at c.args.call.now caller.cpu name.ProcessCreate caller.table.entries c.in-ProcessCreate.is
     (rw c.in-ProcessCreate.is refl) (c.requires.sure no caller at)))
@@ -154,9 +147,7 @@ process_create-made-requires-clause-sure g c = λ no caller at.
 pub process_start-answer-requires-clause-process : goal.process_start-answer-requires-clause-process
 unfolding site_of handle_operands operands_fault
 process_start-answer-requires-clause-process g c = λ no caller at.
-    let same : c.index.result.now ≡ caller = c.index.ensures ∙ get_or_from_slice_get c.args.self.now.processes.list.items c.args.place caller
-    c.index.result.now at
-    in
+    let same : c.index.result.now ≡ caller = caller_here c.args.self.now.processes.list.items c.args.place caller _ c.index.ensures at in
     let process : c.register-process.result ≡ reg caller.cpu (slice_index c.args.call.now.registers 1) = grind (arith, common_steps) in
     rw process (finds _ _ (faultless_at c.args.call.now caller.cpu name.ProcessStart caller.table.entries c.in-ProcessStart.is
     (rw c.in-ProcessStart.is refl) (c.requires.sure no caller at)))
@@ -164,9 +155,7 @@ process_start-answer-requires-clause-process g c = λ no caller at.
 pub process_start-answer-requires-clause-handle : goal.process_start-answer-requires-clause-handle
 unfolding site_of handle_operands operands_fault
 process_start-answer-requires-clause-handle g c = λ no caller at.
-    let same : c.index.result.now ≡ caller = c.index.ensures ∙ get_or_from_slice_get c.args.self.now.processes.list.items c.args.place caller
-    c.index.result.now at
-    in
+    let same : c.index.result.now ≡ caller = caller_here c.args.self.now.processes.list.items c.args.place caller _ c.index.ensures at in
     let handle : c.register-handle.result ≡ reg caller.cpu (slice_index c.args.call.now.registers 2) = grind (arith, common_steps) in
     rw handle (second (looked_up caller.table.entries (reg caller.cpu (slice_index c.args.call.now.registers 1)) (kind.Process ∷ []) WRITE)
     (looked_up caller.table.entries (reg caller.cpu (slice_index c.args.call.now.registers 2)) [] TRANSFER)
@@ -176,9 +165,7 @@ process_start-answer-requires-clause-handle g c = λ no caller at.
 pub task_kill-answer-requires-clause-sure : goal.task_kill-answer-requires-clause-sure
 unfolding site_of handle_operands operands_fault
 task_kill-answer-requires-clause-sure g c = λ no caller at.
-    let same : c.index.result.now ≡ caller = c.index.ensures ∙ get_or_from_slice_get c.args.self.now.processes.list.items c.args.place caller
-    c.index.result.now at
-    in
+    let same : c.index.result.now ≡ caller = caller_here c.args.self.now.processes.list.items c.args.place caller _ c.index.ensures at in
     let task : c.register-task.result ≡ reg caller.cpu (slice_index c.args.call.now.registers 1) = grind (arith, common_steps) in
     rw task (finds _ None (faultless_at c.args.call.now caller.cpu name.TaskKill caller.table.entries c.in-TaskKill.is
     (rw c.in-TaskKill.is refl) (c.requires.sure no caller at)))

@@ -17,24 +17,20 @@ pub returns-in_err-item-clause-not_ready : goal.returns-in_err-item-clause-not_r
 returns-in_err-item-clause-not_ready c =
     rw (← c.self.view_is)
     (not_ready_in c.self.inside.library c.self.inside.parts.processes.list.items c.self.inside.parts.objects c.self.inside.parts.blocked.items c.args.pid
-    c.from_residual.result
-    c.in_err-item.ensures.not_ready)
+    c.from_residual.result c.in_err-item.ensures.not_ready)
 
 -- ---- something waits at an object that the call touched
 
 pub fire_waits-requires : goal.fire_waits-requires
 fire_waits-requires c =
-    asleep_consistent c.self.inside.library c.self.inside.parts.processes.list.items c.self.inside.parts.objects c.self.inside.parts.blocked.items
-    (vec_capacity c.self.inside.parts.blocked) c.args.pid c.in_ok-item.item c.self.invariant
+    asleep_consistent _ _ _ _ _ c.args.pid c.in_ok-item.item c.self.invariant
     c.act.new.self.processes.list.items c.act.new.self.objects c.act.new.self.objects c.fall_asleep.new.objects
     c.act.new.self.blocked.items c.in_ok-item.ensures.acts c.in_ok-item.ensures.list c.in_ok-item.ensures.fewer c.in_ok-item.ensures.asleep
     (c.in_ok-item.ensures.unheld (sym c.is_local.ensures ∙ c.if-is_local.false)) (rw c.effect_of-effect.ensures.asleep at c.fall_asleep.ensures)
 
 pub wake-woke-requires-clause-sought : goal.wake-woke-requires-clause-sought
 wake-woke-requires-clause-sought c =
-    fired_known c.self.inside.library c.self.inside.parts.processes.list.items c.self.inside.parts.objects c.self.inside.parts.blocked.items (vec_capacity
-    c.self.inside.parts.blocked)
-    c.args.pid c.in_ok-item.item c.self.invariant c.act.new.self.processes.list.items c.act.new.self.objects c.act.new.self.objects c.fall_asleep.new.objects
+    fired_known _ _ _ _ _ c.args.pid c.in_ok-item.item c.self.invariant c.act.new.self.processes.list.items c.act.new.self.objects c.act.new.self.objects c.fall_asleep.new.objects
     c.act.new.self.blocked.items c.in_ok-item.ensures.acts c.in_ok-item.ensures.list c.in_ok-item.ensures.fewer c.in_ok-item.ensures.asleep
     (c.in_ok-item.ensures.unheld (sym c.is_local.ensures ∙ c.if-is_local.false))
     (rw c.effect_of-effect.ensures.asleep at c.fall_asleep.ensures) c.fire_waits.new.objects c.fire_waits.ensures
@@ -44,10 +40,7 @@ wake-woke-requires-clause-ordered c =
     rw (
       c.add_blocked.ensures.items,
       then_asleep c.args.pid c.in_ok-item.item c.effect_of-effect.result c.effect_of-effect.ensures c.act.new.self.blocked.items,
-    )
-    (fired_ordered c.self.inside.library c.self.inside.parts.processes.list.items c.self.inside.parts.objects c.self.inside.parts.blocked.items
-    (vec_capacity c.self.inside.parts.blocked)
-    c.args.pid c.in_ok-item.item c.self.invariant
+    ) (fired_ordered _ _ _ _ _ c.args.pid c.in_ok-item.item c.self.invariant
     c.act.new.self.processes.list.items c.act.new.self.objects c.act.new.self.objects c.fall_asleep.new.objects
     c.act.new.self.blocked.items c.in_ok-item.ensures.acts c.in_ok-item.ensures.list c.in_ok-item.ensures.fewer c.in_ok-item.ensures.asleep
     (c.in_ok-item.ensures.unheld (sym c.is_local.ensures ∙ c.if-is_local.false))
@@ -55,19 +48,16 @@ wake-woke-requires-clause-ordered c =
 
 pub calm-requires-clause-waits : goal.calm-requires-clause-waits
 calm-requires-clause-waits c =
-    nothing_holds c.self.inside.library c.self.inside.parts.processes.list.items c.self.inside.parts.objects c.self.inside.parts.blocked.items
-    (vec_capacity c.self.inside.parts.blocked) c.args.pid c.in_ok-item.item c.self.invariant
+    nothing_holds _ _ _ _ _ c.args.pid c.in_ok-item.item c.self.invariant
     c.act.new.self.processes.list.items c.act.new.self.objects c.act.new.self.objects c.fall_asleep.new.objects
     c.act.new.self.blocked.items c.in_ok-item.ensures.acts c.in_ok-item.ensures.list c.in_ok-item.ensures.fewer c.in_ok-item.ensures.asleep
     (c.in_ok-item.ensures.unheld (sym c.is_local.ensures ∙ c.if-is_local.false)) (rw c.effect_of-effect.ensures.asleep at c.fall_asleep.ensures)
     c.fire_waits.new.objects c.fire_waits.ensures c.wake-woke.new.processes.list.items c.wake-woke.new.objects c.wake-woke.new.blocked.items
-    c.started-started.result c.wake-woke.result
-    (rw (
+    c.started-started.result c.wake-woke.result (rw (
       c.add_blocked.ensures.items,
       then_asleep c.args.pid c.in_ok-item.item c.effect_of-effect.result c.effect_of-effect.ensures
           c.act.new.self.blocked.items,
-    )
-    at c.wake-woke.ensures.turns)
+    ) at c.wake-woke.ensures.turns)
 
 pub calm-requires-clause-sleepers : goal.calm-requires-clause-sleepers
 calm-requires-clause-sleepers c = c.wake-woke.ensures.turns.none_due
@@ -76,40 +66,31 @@ pub returns-clause-ran : goal.returns-clause-ran
 returns-clause-ran c = rw (← c.self.view_is, c.calm.ensures, c.of-told-2.ensures.woke)
     (tells_step
     (machine_value c.self.inside.library c.self.inside.parts.processes.list.items c.self.inside.parts.objects c.self.inside.parts.blocked.items) c.args.pid _
-    c.in_ok-item.item
-    c.started-started.result c.wake-woke.result
-    (woken_step c.self.inside.library c.self.inside.parts.processes.list.items c.self.inside.parts.objects c.self.inside.parts.blocked.items (vec_capacity
-    c.self.inside.parts.blocked)
-    c.args.pid c.in_ok-item.item c.self.invariant
+    c.in_ok-item.item c.started-started.result c.wake-woke.result
+    (woken_step _ _ _ _ _ c.args.pid c.in_ok-item.item c.self.invariant
     c.act.new.self.processes.list.items c.act.new.self.objects c.act.new.self.objects c.fall_asleep.new.objects
     c.act.new.self.blocked.items c.in_ok-item.ensures.acts c.in_ok-item.ensures.list c.in_ok-item.ensures.fewer c.in_ok-item.ensures.asleep
     (c.in_ok-item.ensures.unheld (sym c.is_local.ensures ∙ c.if-is_local.false)) (rw c.effect_of-effect.ensures.asleep at c.fall_asleep.ensures)
     c.fire_waits.new.objects c.fire_waits.ensures c.wake-woke.new.processes.list.items c.wake-woke.new.objects c.wake-woke.new.blocked.items
-    c.started-started.result c.wake-woke.result
-    (rw (
+    c.started-started.result c.wake-woke.result (rw (
       c.add_blocked.ensures.items,
       then_asleep c.args.pid c.in_ok-item.item c.effect_of-effect.result c.effect_of-effect.ensures
           c.act.new.self.blocked.items,
-    )
-    at c.wake-woke.ensures.turns))
+    ) at c.wake-woke.ensures.turns))
     c.act.new.self.taken c.in_ok-item.ensures.child c.effect_of-effect.result c.effect_of-effect.ensures c.started-started.ensures)
 
 pub returns-clause-own : goal.returns-clause-own
 returns-clause-own c = rw (← c.self.view_is, c.calm.ensures)
-    (woken_own c.self.inside.library c.self.inside.parts.processes.list.items c.self.inside.parts.objects c.self.inside.parts.blocked.items (vec_capacity
-    c.self.inside.parts.blocked)
-    c.args.pid c.in_ok-item.item c.self.invariant
+    (woken_own _ _ _ _ _ c.args.pid c.in_ok-item.item c.self.invariant
     c.act.new.self.processes.list.items c.act.new.self.objects c.act.new.self.objects c.fall_asleep.new.objects
     c.act.new.self.blocked.items c.in_ok-item.ensures.acts c.in_ok-item.ensures.list c.in_ok-item.ensures.fewer c.in_ok-item.ensures.asleep
     (c.in_ok-item.ensures.unheld (sym c.is_local.ensures ∙ c.if-is_local.false)) (rw c.effect_of-effect.ensures.asleep at c.fall_asleep.ensures)
     c.fire_waits.new.objects c.fire_waits.ensures c.wake-woke.new.processes.list.items c.wake-woke.new.objects c.wake-woke.new.blocked.items
-    c.started-started.result c.wake-woke.result
-    (rw (
+    c.started-started.result c.wake-woke.result (rw (
       c.add_blocked.ensures.items,
       then_asleep c.args.pid c.in_ok-item.item c.effect_of-effect.result c.effect_of-effect.ensures
           c.act.new.self.blocked.items,
-    )
-    at c.wake-woke.ensures.turns) c.in_ok-item.ensures.own)
+    ) at c.wake-woke.ensures.turns) c.in_ok-item.ensures.own)
 
 pub add_blocked-requires : goal.add_blocked-requires
 add_blocked-requires c =
@@ -124,20 +105,16 @@ add_blocked-requires c =
 
 pub invariant_of-self-2 : goal.invariant_of-self-2
 invariant_of-self-2 c = rw c.calm.ensures
-    (woken_whole c.self.inside.library c.self.inside.parts.processes.list.items c.self.inside.parts.objects c.self.inside.parts.blocked.items
-    (vec_capacity c.self.inside.parts.blocked)
-    c.args.pid c.in_ok-item.item c.self.invariant
+    (woken_whole _ _ _ _ _ c.args.pid c.in_ok-item.item c.self.invariant
     c.act.new.self.processes.list.items c.act.new.self.objects c.act.new.self.objects c.fall_asleep.new.objects
     c.act.new.self.blocked.items c.in_ok-item.ensures.acts c.in_ok-item.ensures.list c.in_ok-item.ensures.fewer c.in_ok-item.ensures.asleep
     (c.in_ok-item.ensures.unheld (sym c.is_local.ensures ∙ c.if-is_local.false)) (rw c.effect_of-effect.ensures.asleep at c.fall_asleep.ensures)
     c.fire_waits.new.objects c.fire_waits.ensures c.wake-woke.new.processes.list.items c.wake-woke.new.objects c.wake-woke.new.blocked.items
-    c.started-started.result c.wake-woke.result
-    (rw (
+    c.started-started.result c.wake-woke.result (rw (
       c.add_blocked.ensures.items,
       then_asleep c.args.pid c.in_ok-item.item c.effect_of-effect.result c.effect_of-effect.ensures
           c.act.new.self.blocked.items,
-    )
-    at c.wake-woke.ensures.turns) (vec_capacity c.wake-woke.new.blocked)
+    ) at c.wake-woke.ensures.turns) (vec_capacity c.wake-woke.new.blocked)
     (omega (arith, same_length held _ _ c.wake-woke.ensures.turns.held, c.wake-woke.ensures.capacity, c.add_blocked.ensures.capacity, c.act.ensures.room)))
 
 -- ---- nothing waits there
@@ -152,15 +129,12 @@ returns-then-is_quiet-clause-ran c = rw (
     (tells_step
     (machine_value c.self.inside.library c.self.inside.parts.processes.list.items c.self.inside.parts.objects c.self.inside.parts.blocked.items) c.args.pid _
     c.in_ok-item.item c.started-started.result c.of-woke.result
-    (quiet_step c.self.inside.library c.self.inside.parts.processes.list.items c.self.inside.parts.objects c.self.inside.parts.blocked.items (vec_capacity
-    c.self.inside.parts.blocked)
-    c.args.pid c.in_ok-item.item c.self.invariant
+    (quiet_step _ _ _ _ _ c.args.pid c.in_ok-item.item c.self.invariant
     c.act.new.self.processes.list.items c.act.new.self.objects c.act.new.self.objects c.fall_asleep.new.objects
     c.act.new.self.blocked.items c.in_ok-item.ensures.acts c.in_ok-item.ensures.list c.in_ok-item.ensures.fewer c.in_ok-item.ensures.asleep
     (c.in_ok-item.ensures.unheld (sym c.is_local.ensures ∙ c.if-is_local.false)) (rw c.effect_of-effect.ensures.asleep at c.fall_asleep.ensures)
     (c.is_quiet.ensures.waits c.if-is_quiet.true) (c.is_quiet.ensures.sleepers c.if-is_quiet.true) c.started-started.result c.of-woke.result
-    c.of-woke.ensures.told)
-    c.act.new.self.taken c.in_ok-item.ensures.child c.effect_of-effect.result c.effect_of-effect.ensures c.started-started.ensures)
+    c.of-woke.ensures.told) c.act.new.self.taken c.in_ok-item.ensures.child c.effect_of-effect.result c.effect_of-effect.ensures c.started-started.ensures)
 
 pub returns-then-is_quiet-clause-own : goal.returns-then-is_quiet-clause-own
 returns-then-is_quiet-clause-own c = rw (
@@ -168,9 +142,7 @@ returns-then-is_quiet-clause-own c = rw (
   c.add_blocked.ensures.items,
   then_asleep c.args.pid c.in_ok-item.item c.effect_of-effect.result c.effect_of-effect.ensures c.act.new.self.blocked.items,
 )
-    (quiet_own c.self.inside.library c.self.inside.parts.processes.list.items c.self.inside.parts.objects c.self.inside.parts.blocked.items (vec_capacity
-    c.self.inside.parts.blocked)
-    c.args.pid c.in_ok-item.item c.self.invariant
+    (quiet_own _ _ _ _ _ c.args.pid c.in_ok-item.item c.self.invariant
     c.act.new.self.processes.list.items c.act.new.self.objects c.act.new.self.objects c.fall_asleep.new.objects
     c.act.new.self.blocked.items c.in_ok-item.ensures.acts c.in_ok-item.ensures.list c.in_ok-item.ensures.fewer c.in_ok-item.ensures.asleep
     (c.in_ok-item.ensures.unheld (sym c.is_local.ensures ∙ c.if-is_local.false)) (rw c.effect_of-effect.ensures.asleep at c.fall_asleep.ensures)
@@ -181,10 +153,7 @@ invariant_of-self-then-is_quiet c =
     rw (
       c.add_blocked.ensures.items,
       then_asleep c.args.pid c.in_ok-item.item c.effect_of-effect.result c.effect_of-effect.ensures c.act.new.self.blocked.items,
-    )
-    (quiet_whole c.self.inside.library c.self.inside.parts.processes.list.items c.self.inside.parts.objects c.self.inside.parts.blocked.items (vec_capacity
-    c.self.inside.parts.blocked)
-    c.args.pid c.in_ok-item.item c.self.invariant
+    ) (quiet_whole _ _ _ _ _ c.args.pid c.in_ok-item.item c.self.invariant
     c.act.new.self.processes.list.items c.act.new.self.objects c.act.new.self.objects c.fall_asleep.new.objects
     c.act.new.self.blocked.items c.in_ok-item.ensures.acts c.in_ok-item.ensures.list c.in_ok-item.ensures.fewer c.in_ok-item.ensures.asleep
     (c.in_ok-item.ensures.unheld (sym c.is_local.ensures ∙ c.if-is_local.false)) (rw c.effect_of-effect.ensures.asleep at c.fall_asleep.ensures)
@@ -196,8 +165,7 @@ invariant_of-self-then-is_quiet c =
 pub returns-then-is_local-clause-ran : goal.returns-then-is_local-clause-ran
 returns-then-is_local-clause-ran c =
     let local : is_local c.in_ok-item.item ≡ true = sym c.is_local.ensures ∙ c.if-is_local.true in
-    rw (← c.self.view_is)
-    (tells_local
+    rw (← c.self.view_is) (tells_local
     (machine_value c.self.inside.library c.self.inside.parts.processes.list.items c.self.inside.parts.objects c.self.inside.parts.blocked.items) c.args.pid _
     c.in_ok-item.item None woke.Nobody
     (takes_local c.self.inside.library c.self.inside.parts.processes.list.items c.self.inside.parts.objects c.self.inside.parts.blocked.items c.args.pid
@@ -209,8 +177,7 @@ returns-then-is_local-clause-own c =
     let local : is_local c.in_ok-item.item ≡ true = sym c.is_local.ensures ∙ c.if-is_local.true in
     rw (← c.self.view_is)
     (own_stepped c.self.inside.library c.self.inside.parts.processes.list.items c.self.inside.parts.objects c.self.inside.parts.blocked.items c.args.pid
-    c.in_ok-item.item
-    c.act.new.self.processes.list.items c.act.new.self.processes.list.items c.act.new.self.objects c.act.new.self.blocked.items
+    c.in_ok-item.item c.act.new.self.processes.list.items c.act.new.self.processes.list.items c.act.new.self.objects c.act.new.self.blocked.items
     (left_in c.act.new.self (then_blocked c.args.pid c.in_ok-item.item c.act.new.self.blocked.items))
     c.act.ensures.consistent.processes_in_order refl c.in_ok-item.ensures.acts
     (local_awake c.args.pid c.act.new.self.processes.list.items c.act.new.self.objects c.act.new.self.blocked.items c.in_ok-item.item local
@@ -231,38 +198,32 @@ invariant_of-self-then-is_local c =
     let known : (k : ℕ) (a : Awaited) → Seeks c.self.inside.parts.objects k a → Seeks c.act.new.self.objects k a =
     λ k a there. same_seeks c.self.inside.parts.objects c.act.new.self.objects c.in_ok-item.ensures.asleep k a there in
     let none : fell_asleep c.in_ok-item.item ≡ false = silent c.in_ok-item.item local in
-    stepped_whole c.self.inside.library c.self.inside.parts.processes.list.items c.self.inside.parts.objects c.self.inside.parts.blocked.items
-    (vec_capacity c.self.inside.parts.blocked)
-    c.args.pid c.in_ok-item.item c.self.invariant
+    stepped_whole _ _ _ _ _ c.args.pid c.in_ok-item.item c.self.invariant
     c.act.new.self.processes.list.items c.act.new.self.objects c.act.new.self.blocked.items (vec_capacity c.act.new.self.blocked) taken
     c.act.ensures.consistent list
     (acted_sought c.self.inside.library c.self.inside.parts.processes.list.items c.act.new.self.processes.list.items c.self.inside.parts.objects
     c.act.new.self.objects
     c.act.new.self.objects c.self.inside.parts.blocked.items c.act.new.self.blocked.items c.args.pid c.in_ok-item.item c.self.invariant.sound
     c.in_ok-item.ensures.acts c.self.invariant.are_blocked c.in_ok-item.ensures.list c.in_ok-item.ensures.fewer c.self.invariant.sought
-    known (λ told. absurd (false≢true (sym none ∙ told))))
-    (rw (local_list c.args.pid c.in_ok-item.item c.act.new.self.blocked.items local) at
+    known (λ told. absurd (false≢true (sym none ∙ told)))) (rw (local_list c.args.pid c.in_ok-item.item c.act.new.self.blocked.items local) at
     (acted_ordered c.self.inside.library c.self.inside.parts.processes.list.items c.act.new.self.processes.list.items c.self.inside.parts.objects
     c.act.new.self.objects
     c.act.new.self.objects c.self.inside.parts.blocked.items c.act.new.self.blocked.items c.args.pid c.in_ok-item.item c.self.invariant.sound
     c.in_ok-item.ensures.acts c.self.invariant.are_blocked c.in_ok-item.ensures.list c.in_ok-item.ensures.fewer c.self.invariant.sought
     known (λ told. absurd (false≢true (sym none ∙ told))) c.self.invariant.ordered (λ silent_so. c.in_ok-item.ensures.asleep)
-    (λ told. absurd (false≢true (sym none ∙ told)))))
-    c.act.ensures.room
+    (λ told. absurd (false≢true (sym none ∙ told))))) c.act.ensures.room
 
 -- ---- whom it may have killed
 
 pub returns-then-is_quiet-clause-killed : goal.returns-then-is_quiet-clause-killed
 returns-then-is_quiet-clause-killed c = rw (← c.self.view_is)
     (told_killed c.self.inside.library (world_blocked c.self.inside.parts.processes.list.items c.self.inside.parts.objects c.self.inside.parts.blocked.items)
-    c.args.pid
-    (killed_of c.of-told.result) c.act.new.self.taken.killed c.of-told.ensures.killed c.in_ok-item.ensures.task)
+    c.args.pid (killed_of c.of-told.result) c.act.new.self.taken.killed c.of-told.ensures.killed c.in_ok-item.ensures.task)
 
 pub returns-clause-killed : goal.returns-clause-killed
 returns-clause-killed c = rw (← c.self.view_is)
     (told_killed c.self.inside.library (world_blocked c.self.inside.parts.processes.list.items c.self.inside.parts.objects c.self.inside.parts.blocked.items)
-    c.args.pid
-    (killed_of c.of-told-2.result) c.act.new.self.taken.killed c.of-told-2.ensures.killed c.in_ok-item.ensures.task)
+    c.args.pid (killed_of c.of-told-2.result) c.act.new.self.taken.killed c.of-told-2.ensures.killed c.in_ok-item.ensures.task)
 
 -- ---- what is told fits the item
 

@@ -1,8 +1,9 @@
 """Where wrong bodies stand, so that many can be tried by one check.
 
 Each function is proved over the contracts of those that it calls. So where an edit changes nothing but a
-body, that function is proved with the edit or isn't, whatever other bodies are changed in the same check. But
-what calls a function that isn't proved isn't tried.
+body, that function is proved with the edit or isn't, whatever other bodies are changed in the same check. A check
+that goes past open goals (--allow-holes) also tries what calls a function that isn't proved, but only where it has
+proofs of its own.
 """
 import re
 from collections import defaultdict
@@ -10,7 +11,7 @@ from pathlib import Path
 
 from contracts import functions_of
 
-VERDICT = re.compile(r"fn (\S+): (proved|not proved|no proof)(.*)")
+VERDICT = re.compile(r"fn (\S+): (proved|no holes|not proved|no proof)(.*)")
 # What isn't proved only because a function that it calls isn't.
 BY_OTHERS = re.compile(r"it calls|it passes|a call of")
 # A goal that is left open, with what more is known of it; an error in a file, with the goal or lemma that it is about.
@@ -66,15 +67,25 @@ def led_to(name, calls):
     return found
 
 
+def folder_of(function):
+    """The folder of its proofs, below its crate."""
+    return "proofs/" + "/".join(function.split("::")[1:])
+
+
 def rounds_of(crate, edits):
-    """The edits of bodies in rounds, in each of which no function leads to another, and the edits that are left."""
+    """The edits of bodies in rounds, in each of which none keeps another from being tried, and those that are left."""
     rounds, functions = [], functions_of(crate)
     places = [(place_of(crate, functions, edit), edit) for edit in edits]
     calls = calls_in(crate, functions)
     behind = {place: led_to(place, calls) for place, _ in places if place}
+    has_proofs = {place for place in behind if (crate / folder_of(place)).is_dir()}
+
+    def is_kept(place, other):
+        return place == other or other in behind[place] and place not in has_proofs
+
     for place, edit in sorted(((place, edit) for place, edit in places if place), key=lambda it: len(behind[it[0]])):
         free = next((found for found in rounds
-                     if not any(place in behind[other] or other in behind[place] for other in found)), None)
+                     if not any(is_kept(place, other) or is_kept(other, place) for other in found)), None)
         if free is None:
             free = {}
             rounds.append(free)
@@ -119,14 +130,14 @@ def goals_in(output):
         left_open = OPEN.match(line)
         if left_open:
             opened.append(left_open[1] + "!" * ("goal is false" in left_open[2]))
-        if not re.match(r"\w+ \S+: (proved|not proved|no proof)", line):
+        if not re.match(r"\w+ \S+: (proved|no holes|not proved|no proof)", line):
             continue
         name, ends, why = VERDICT.match(line).groups() if line.startswith("fn ") else ("", "proved", "")
-        if ends != "proved" and not BY_OTHERS.search(why):
+        own = [goal for file, named in errors.items() if str(Path(file).parent) == folder_of(name) for goal in named]
+        is_own = opened or any(not goal.endswith("?") for goal in own)
+        if ends not in ["proved", "no holes"] and (is_own or not BY_OTHERS.search(why)):
             named = re.findall(r"`([^`]+)`", why.partition("did not prove")[2].partition(";")[0])
-            there = opened + [goal for goal in named if goal + "!" not in opened]
-            folder = "proofs/" + "/".join(name.split("::")[1:])
-            there += [goal for file, named in errors.items() if str(Path(file).parent) == folder for goal in named]
+            there = opened + [goal for goal in named if goal + "!" not in opened] + own
             goals.setdefault(name, list(dict.fromkeys(there)) or [ends + why.partition(",")[0]])
         opened = []
     lemmas = {file: named for file, named in errors.items() if file.startswith("proofs/") and Path(file).name not in ANSWERS}

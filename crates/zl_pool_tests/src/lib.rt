@@ -9,6 +9,8 @@
 #![tactic(auto)]
 
 #[cfg(test)]
+mod crowd_order_tests;
+#[cfg(test)]
 mod crowd_tests;
 #[cfg(test)]
 mod flight_tests;

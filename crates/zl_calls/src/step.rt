@@ -68,10 +68,10 @@ pub fn next_name(library: &Library, process: &Process) -> Option<CallName>
 }
 
 impl Parts {
-    /// Does the next instruction of the process, if the process is ready, and tells the step. Waits have
-    /// ended with their handles, none fires and no process wakes yet, and one that blocks isn't in the list
-    /// of the blocked yet; those that were killed aren't there any more. A process that was never started
-    /// is gone with its object.
+    /// Does the next instruction of the process, if the process is ready, and tells the step. Waits
+    /// have ended with their handles, none fires and no process wakes yet, and one that blocks isn't in
+    /// the list of the blocked yet; those that were killed aren't there any more. A process that was
+    /// never started is gone with its object.
     // Part of each turn of a run, as is what it calls below.
     #[inline(always)]
     pub fn act(&mut self, alloc: Global, library: &Library, pid: Pid) -> Option<TraceItem>
@@ -128,9 +128,9 @@ impl Parts {
     }
 
     /// Does the call that stands next for the process at this place, and tells its name and how it
-    /// ends; where waits are registered, the handles that it took are noted, and where it is a start, the
-    /// process that it names; where its program was checked, nothing is tested that is known of its calls.
-    /// Where none stands next nothing changes.
+    /// ends; where waits are registered, the handles that it took are noted, and where it is a start,
+    /// the process that it names; where its program was checked, nothing is tested that is known of its
+    /// calls. Where none stands next nothing changes.
     #[inline(always)]
     fn call_next(
         &mut self,

@@ -158,8 +158,9 @@ fn wake_each(
 ) -> Woke
     requires consistent { IsConsistent processes.old.list.items objects.old }
     requires list { AreBlocked processes.old.list.items blocked.old.items }
-    ensures wakes { world_blocked processes.new.list.items objects.new blocked.new.items ≡ fold woken
-        (world_blocked processes.old.list.items objects.old blocked.old.items) blocked.old.items }
+    ensures wakes { world_blocked processes.new.list.items objects.new blocked.new.items
+        ≡ fold woken (world_blocked processes.old.list.items objects.old blocked.old.items)
+        blocked.old.items }
     ensures consistent { IsConsistent processes.new.list.items objects.new }
     ensures list { AreBlocked processes.new.list.items blocked.new.items }
     ensures held { map held processes.new.list.items ≡ map held processes.old.list.items }

@@ -204,7 +204,8 @@ fn allows(objects: &Objects, job: Koid, condition: Condition) -> bool
     matches!(objects.action(job, condition), Action::Allow)
 }
 
-/// What a process is to be started with: the caller's handle of it, the one that it gets, and a word.
+/// What a process is to be started with: the caller's handle of it, the one that it gets, and a
+/// word.
 #[derive(Clone, Copy)]
 pub struct StartOf {
     pub process: u64,

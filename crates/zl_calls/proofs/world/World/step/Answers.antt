@@ -30,7 +30,8 @@ fire_waits-requires c =
 
 pub wake-woke-requires-clause-sought : goal.wake-woke-requires-clause-sought
 wake-woke-requires-clause-sought c =
-    fired_known _ _ _ _ _ c.args.pid c.in_ok-item.item c.self.invariant c.act.new.self.processes.list.items c.act.new.self.objects c.act.new.self.objects c.fall_asleep.new.objects
+    fired_known _ _ _ _ _ c.args.pid c.in_ok-item.item c.self.invariant c.act.new.self.processes.list.items c.act.new.self.objects c.act.new.self.objects
+    c.fall_asleep.new.objects
     c.act.new.self.blocked.items c.in_ok-item.ensures.acts c.in_ok-item.ensures.list c.in_ok-item.ensures.fewer c.in_ok-item.ensures.asleep
     (c.in_ok-item.ensures.unheld (sym c.is_local.ensures ∙ c.if-is_local.false))
     (rw c.effect_of-effect.ensures.asleep at c.fall_asleep.ensures) c.fire_waits.new.objects c.fire_waits.ensures

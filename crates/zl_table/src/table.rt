@@ -4,7 +4,7 @@ ghost use Rattle.zl_rights.specs.Numbers.{bits, takes};
 ghost use Rattle.zl_rights.specs.Map.{get, has_key, update};
 ghost use Rattle.zl_rights.specs.LookUp.{looked_up};
 ghost use Rattle.std.specs.Vec.{vec_capacity};
-ghost use Rattle.zl_table.specs.Stored.{free_stored};
+ghost use Rattle.zl_table.specs.Stored.{free_stored, handles_stored};
 ghost use Rattle.zl_rights.specs.Values.{CAPACITY, IsFree, given_back, new_free, offered, taken};
 ghost use Rattle.zl_table.specs.Table.{MOST_VALUE, IsFull, IsTable, Inserts, Removes, Undoes, TakesBack, refused_entry};
 
@@ -73,6 +73,38 @@ impl Table {
             last: None,
             drained: 0,
         }
+    }
+
+    /// Another table like this one: the same handles at the same values, and insertions get the same
+    /// values from it. Only memory can be refused.
+    ///
+    /// Source: own profile.
+    pub fn copy(&self, alloc: Global) -> Result<Table, AllocError>
+        ensures { IfOk result (λ table. table ≡ self.now) }
+    {
+        Ok(Table {
+            slots: self.slots.clone()?,
+            freed: copied_freed(alloc, &self.freed, self.made)?,
+            made: self.made,
+            last: self.last,
+            drained: self.drained,
+        })
+    }
+
+    /// Whether the other table is the same: its handles, the value removed last, and the values that
+    /// insertions get.
+    ///
+    /// Source: own profile.
+    pub fn is_same(&self, other: &Table) -> bool
+        ensures { IsTrue result ↔ self.now ≡ other.now }
+    {
+        if self.made != other.made || self.last != other.last {
+            return false;
+        }
+        if self.freed.as_slice() != other.freed.as_slice() {
+            return false;
+        }
+        are_same_handles(&self.slots, &other.slots)
     }
 
     /// How many handles the table holds.
@@ -261,6 +293,23 @@ impl Table {
         let (key, _) = self.slots.iter().next()?;
         Some(key)
     }
+}
+
+/// The freed values once more, with room for each value that was made.
+fn copied_freed(alloc: Global, freed: &[HValue], made: HValue) -> Result<Vec<HValue>, AllocError>
+    ensures values { IfOk result (λ copy. copy.items ≡ freed.now) }
+    ensures room { IfOk result (λ copy. made ≤ vec_capacity copy) }
+{
+    let mut copy = Vec::with_capacity(alloc, made as usize)?;
+    copy.extend_from_slice(freed)?;
+    Ok(copy)
+}
+
+/// Whether the same handles stand at the same values.
+fn are_same_handles(one: &Slab<Entry>, other: &Slab<Entry>) -> bool
+    ensures { IsTrue result ↔ handles_stored one.now ≡ handles_stored other.now }
+{
+    one.iter().eq(other.iter())
 }
 
 /// The value that the next insertion gets.

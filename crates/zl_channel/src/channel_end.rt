@@ -1,8 +1,8 @@
-ghost use Rattle.std.specs.Prelude.{◌≡◌, ◌↔◌, ◌++◌, ◌∷◌, [], IsTrue, OnOk, OnErr, IfErr, IfSome, IfNone, Err, All, drop, slice_get};
+ghost use Rattle.std.specs.Prelude.{◌≡◌, ◌↔◌, ◌++◌, ◌∷◌, [], IsTrue, OnOk, OnErr, IfErr, IfOk, IfSome, IfNone, Err, All, drop, slice_get};
 ghost use Rattle.zl_channel.specs.Queue.{Drains, front_handles, front_sizes, is_too_large_here, refused_message};
 
 use crate::message::Message;
-use std::alloc::Global;
+use std::alloc::{AllocError, Global};
 use std::collections::VecDeque;
 use std::marker::Model;
 use zl_rights::Entry;
@@ -50,6 +50,38 @@ impl ChannelEnd {
         ChannelEnd {
             queue: VecDeque::new(alloc),
         }
+    }
+
+    /// Another end at which the same messages are to be read, in the same order. Only memory can be
+    /// refused.
+    ///
+    /// Source: own profile.
+    pub fn copy(&self, alloc: Global) -> Result<ChannelEnd, AllocError>
+        ensures { IfOk result (λ end. end ≡ self.now) }
+    {
+        let mut queue = VecDeque::with_capacity(alloc, self.queue.len())?;
+        for message in self.queue.iter() {
+            let again = message.copy(alloc)?;
+            queue.push_back(again)?;
+        }
+        Ok(ChannelEnd { queue })
+    }
+
+    /// Whether the same messages are to be read at the other end, in the same order.
+    ///
+    /// Source: own profile.
+    pub fn is_same(&self, other: &ChannelEnd) -> bool
+        ensures { IsTrue result ↔ self.now ≡ other.now }
+    {
+        if self.queue.len() != other.queue.len() {
+            return false;
+        }
+        for n in 0..self.queue.len() {
+            if !self.queue[n].is_same(&other.queue[n]) {
+                return false;
+            }
+        }
+        true
     }
 
     /// Whether no message is to be read.

@@ -2,8 +2,8 @@
 //!
 //! It stands on `zl_rights` and `smallvec`. It promises that messages come out whole and in the
 //! order in which they went in, that just those above the limits are refused for their size, and
-//! that nothing but `push` can be refused memory. Where a method names no source, that of its type is
-//! meant.
+//! that nothing but `push` and `copy` can be refused memory. Where a method names no source, that of
+//! its type is meant.
 #![tactic(auto)]
 
 mod channel_end;

@@ -1,4 +1,7 @@
+ghost use Rattle.std.specs.Prelude.{◌≡◌, ◌↔◌, IsTrue, IfOk};
+
 use smallvec::SmallVec;
+use std::alloc::{AllocError, Global};
 use std::marker::Model;
 use zl_rights::Entry;
 
@@ -22,4 +25,34 @@ impl Model for Message {
     ghost Value = { MessageValue };
 
     ghost view = { λ m. record { bytes = m.bytes.items; handles = m.handles.items } };
+}
+
+impl Message {
+    /// Another message like this one. Only memory can be refused.
+    ///
+    /// Source: own profile.
+    pub fn copy(&self, alloc: Global) -> Result<Message, AllocError>
+        ensures { IfOk result (λ message. message ≡ self.now) }
+    {
+        Ok(Message {
+            bytes: Vec::from_slice(alloc, &self.bytes)?,
+            handles: Handles::from_slice(alloc, &self.handles)?,
+        })
+    }
+
+    /// Whether the other message has the same bytes, and the same handles in the same order.
+    ///
+    /// Source: own profile.
+    pub fn is_same(&self, other: &Message) -> bool
+        ensures { IsTrue result ↔ self.now ≡ other.now }
+    {
+        self.bytes == other.bytes && are_same_handles(&self.handles, &other.handles)
+    }
+}
+
+/// Whether both have the same handles in the same order.
+fn are_same_handles(one: &[Entry], other: &[Entry]) -> bool
+    ensures { IsTrue result ↔ one.now ≡ other.now }
+{
+    one == other
 }

@@ -1,6 +1,7 @@
 -- A row of places and the policy that is set in it.
 use Rattle.zl_rights.proofs.Common.{◌≡◌, ℕ, zero, suc, ◌+◌, ◌<◌, ◌||◌, Bool, true, false, not, is_empty, List, [], ◌∷◌, length, map, get_or, slice_set, refl}
 use Rattle.zl_rights.proofs.Common.{sym, ap, ◌∙◌, arith, eq-eqb, nat_tests, ne_eqb, Option, Some, None, is_some, list_any, Map, get, put}
+use Rattle.std.proofs.lemmas.List.{get_or_default, same_lists}
 use Rattle.zl_rights.specs.declared.policy.Action.{Action}
 use Rattle.zl_policy.specs.Policies.{actions_from, with_unset}
 
@@ -78,3 +79,8 @@ unfolding actions_from
 any_set n [] = refl
 any_set n (None ∷ places) = any_set (n + 1) places
 any_set n (Some a ∷ places) = refl
+
+-- rows of one length in which the same is set are the same
+pub same_rows : (ps qs : List (Option Action)) → length ps ≡ length qs → actions_from 0 ps ≡ actions_from 0 qs → ps ≡ qs
+same_rows ps qs long same = same_lists ps qs long (λ k d within.
+    get_or_default ps k d None within ∙ (sym (set_at k ps) ∙ ap (λ m. get m k) same ∙ set_at k qs) ∙ get_or_default qs k None d (omega (arith, within, long)))

@@ -1,4 +1,4 @@
-ghost use Rattle.std.specs.Prelude.{◌≡◌, ◌<◌, ◌&&◌, not, [], Err, Ok, OnErr, OnOk, Some, get_or, if◌then◌else◌, length, map, slice_get};
+ghost use Rattle.std.specs.Prelude.{◌≡◌, ◌↔◌, ◌<◌, ◌&&◌, not, IsTrue, [], Err, Ok, OnErr, OnOk, Some, get_or, if◌then◌else◌, length, map, slice_get};
 ghost use Rattle.zl_rights.specs.Map.{get};
 ghost use Rattle.zl_rights.specs.Signals.{is_empty};
 ghost use Rattle.zl_rights.specs.Numbers.{action_number, condition_number};
@@ -54,6 +54,18 @@ impl Policy {
         Policy {
             actions: self.actions,
         }
+    }
+
+    /// Whether the other policy is the same: the same actions are set for the same conditions.
+    ///
+    /// Source: own profile.
+    pub fn is_same(&self, other: &Policy) -> bool
+        ensures { IsTrue result ↔ self.now ≡ other.now }
+    {
+        self.actions
+            .iter()
+            .zip(other.actions.iter())
+            .all(|(one, other)| is_same_action(one, other))
     }
 
     /// The action for the condition: `Allow` where none is set, as always for `NewAny`.
@@ -153,6 +165,17 @@ fn is_absolute(mode: &Mode) -> bool
     ensures { result ≡ is_absolute mode.now }
 {
     matches!(mode, Mode::Absolute)
+}
+
+/// Whether both are the same action, or none.
+fn is_same_action(one: &Option<Action>, other: &Option<Action>) -> bool
+    ensures { IsTrue result ↔ one.now ≡ other.now }
+{
+    match (one, other) {
+        (Some(one), Some(other)) => one.number() == other.number(),
+        (None, None) => true,
+        _ => false,
+    }
 }
 
 /// The place of the condition's action.

@@ -1,4 +1,4 @@
-ghost use Rattle.std.specs.Prelude.{◌≡◌, not, OnErr, OnOk};
+ghost use Rattle.std.specs.Prelude.{◌≡◌, ◌↔◌, IsTrue, not, OnErr, OnOk};
 ghost use Rattle.zl_rights.specs.Signals.{is_empty};
 ghost use Rattle.zl_policy.specs.Policies.{action_in, answer_of};
 ghost use Rattle.zl_jobs.specs.Jobs.{killed_job, new_within, root_job, with_policy};
@@ -79,6 +79,33 @@ impl Job {
             policy: self.policy.inherit(),
             killed: false,
         })
+    }
+
+    /// Another job like this one: below the same job, as deep, with the same policy, and killed if this
+    /// one was.
+    ///
+    /// Source: own profile.
+    pub fn copy(&self) -> Job
+        ensures { result ≡ self.now }
+    {
+        Job {
+            parent: self.parent,
+            depth: self.depth,
+            policy: self.policy.inherit(),
+            killed: self.killed,
+        }
+    }
+
+    /// Whether the other job is the same in each part.
+    ///
+    /// Source: own profile.
+    pub fn is_same(&self, other: &Job) -> bool
+        ensures { IsTrue result ↔ self.now ≡ other.now }
+    {
+        self.parent == other.parent
+            && self.depth == other.depth
+            && self.killed == other.killed
+            && self.policy.is_same(&other.policy)
     }
 
     /// The koid of the job directly above; 0 above the root job.

@@ -61,6 +61,22 @@ fn messages_come_out_in_order(rt: HostRuntime) -> Result<(), Fail> {
     Ok(())
 }
 
+/// More handles than lie in a message itself are copied too, and both ends go on apart.
+#[test]
+fn a_copy_has_messages_of_its_own(rt: HostRuntime) -> Result<(), Fail> {
+    let mut end = ChannelEnd::new(rt.alloc());
+    assert!(rt; end.push(message(rt.alloc(), 1, &[1, 2, 3, 4, 5])?).is_ok());
+    assert!(rt; end.push(message(rt.alloc(), 2, &[])?).is_ok());
+    let mut copy = end.copy(rt.alloc())?;
+    assert!(rt; copy.is_same(&end));
+    assert!(rt; copy.drain().is_some());
+    assert!(rt; !copy.is_same(&end));
+    assert!(rt; copy.take().is_some());
+    assert_eq!(rt; copy.front_sizes(), Some((2, 0)));
+    assert_eq!(rt; end.front_sizes(), Some((1, 5)));
+    Ok(())
+}
+
 /// Pushes the message, and once more where there was no memory for it.
 fn push_again(end: &mut ChannelEnd, message: Message) -> bool {
     match end.push(message) {

@@ -13,7 +13,7 @@ use std::ops::Bound;
 use zl_rights::{HValue, Koid, Pid};
 
 /// The numbers of waits. No look-up goes through others than those that are asked for.
-#[derive(Drop)]
+#[derive(Clone, Drop)]
 pub(crate) struct Indexes {
     // Under the process that made the wait, and the value of its handle.
     by_handle: BTreeSet<((Pid, HValue), u64)>,

@@ -1,4 +1,4 @@
-ghost use Rattle.std.specs.Prelude.{◌≡◌, [], OnOk, OnErr, IfErr, IfNone, drop, filter, not, slice_get};
+ghost use Rattle.std.specs.Prelude.{◌≡◌, [], OnOk, OnErr, IfErr, IfNone, IfOk, drop, filter, not, slice_get};
 ghost use Rattle.std.specs.List.{find};
 ghost use Rattle.zl_rights.specs.Signals.{is_empty};
 ghost use Rattle.zl_signals.specs.Waits.{is_at_port, is_by_handle_here, is_keyed_here, next_order, watch_holds, with_changed, with_wait, without_first, without_port, without_wait};
@@ -6,7 +6,7 @@ ghost use Rattle.zl_signals.specs.Waits.{is_at_port, is_by_handle_here, is_keyed
 use crate::waits::Waits;
 use crate::watch::Watch;
 use bitflags::Flags;
-use std::alloc::{AllocFailed, Global};
+use std::alloc::{AllocError, AllocFailed, Global};
 use std::marker::Model;
 use zl_rights::{HValue, Koid, Pid, Signals};
 
@@ -51,6 +51,22 @@ impl SignalState {
             alloc,
             waits: None,
         }
+    }
+
+    /// Another one like this: the same signals, and the same waits in their order. Only memory can be
+    /// refused.
+    pub fn copy(&self, alloc: Global) -> Result<SignalState, AllocError>
+        ensures { IfOk result (λ state. state ≡ self.now) }
+    {
+        let waits = match &self.waits {
+            Some(waits) => Some(Box::new(alloc, waits.copy()?)?),
+            None => None,
+        };
+        Ok(SignalState {
+            raised: self.raised,
+            alloc,
+            waits,
+        })
     }
 
     /// The signals that calls raised and didn't clear since.

@@ -1,6 +1,6 @@
 //! The waits at an object by their numbers, and what leads to them.
 
-ghost use Rattle.std.specs.Prelude.{ℕ, ◌≡◌, ◌≤◌, ◌-◌, ◌^◌, ◌++◌, ◌∷◌, ◌==◌, [], Bool, None, not, drop, filter, slice_get, option_map, if◌then◌else◌, IfErr, IfNone, IfSome, OnErr, OnOk};
+ghost use Rattle.std.specs.Prelude.{ℕ, ◌≡◌, ◌≤◌, ◌-◌, ◌^◌, ◌++◌, ◌∷◌, ◌==◌, [], Bool, None, not, drop, filter, slice_get, option_map, if◌then◌else◌, IfErr, IfNone, IfOk, IfSome, OnErr, OnOk};
 ghost use Rattle.std.proofs.Props.{props};
 ghost use Rattle.std.specs.BTreeMap.{values, IsOrdered};
 ghost use Rattle.std.specs.List.{find};
@@ -14,7 +14,7 @@ use crate::firsts::{NO_WAIT, least, move_on, note, numbered};
 use crate::indexes::Indexes;
 use crate::watch::Watch;
 use bitflags::Flags;
-use std::alloc::{AllocFailed, Global};
+use std::alloc::{AllocError, AllocFailed, Global};
 use std::collections::BTreeMap;
 use zl_rights::{HValue, Koid, Pid, Signals};
 
@@ -48,6 +48,18 @@ impl Waits {
             firsts: [NO_WAIT; 32],
             made: 0,
         }
+    }
+
+    /// The same waits once more, with the same numbers. Only memory can be refused.
+    pub fn copy(&self) -> Result<Waits, AllocError>
+        ensures { IfOk result (λ waits. values waits.by_number ≡ values self.now.by_number) }
+    {
+        Ok(Waits {
+            by_number: self.by_number.clone()?,
+            indexes: self.indexes.clone()?,
+            firsts: self.firsts,
+            made: self.made,
+        })
     }
 
     /// Puts the wait behind all others. Where memory is refused, or no number is left, nothing

@@ -1,4 +1,4 @@
-ghost use Rattle.std.specs.Prelude.{◌≡◌};
+ghost use Rattle.std.specs.Prelude.{◌≡◌, ◌↔◌, IsTrue};
 ghost use Rattle.zl_port.specs.Packets.{is_from, is_user, packet_kind_number, user_packet};
 
 use std::marker::Model;
@@ -31,7 +31,7 @@ impl PacketKind {
 /// named.
 ///
 /// Source: own profile.
-#[derive(Clone, Copy, Drop)]
+#[derive(Clone, Copy, PartialEq, Eq, Drop)]
 pub struct Source {
     pub pid: Pid,
     pub value: HValue,
@@ -91,6 +91,30 @@ impl Packet {
             observed: 0,
             source: None,
         }
+    }
+
+    /// Another packet like this one.
+    pub(crate) fn copy(&self) -> Packet
+        ensures { result ≡ self.now }
+    {
+        Packet {
+            kind: self.kind,
+            key: self.key,
+            trigger: self.trigger,
+            observed: self.observed,
+            source: self.source,
+        }
+    }
+
+    /// Whether the other packet is the same.
+    pub(crate) fn is_same(&self, other: &Packet) -> bool
+        ensures { IsTrue result ↔ self.now ≡ other.now }
+    {
+        self.kind == other.kind
+            && self.key == other.key
+            && self.trigger == other.trigger
+            && self.observed == other.observed
+            && self.source == other.source
     }
 
     /// Whether a call queued it.

@@ -1,4 +1,4 @@
-ghost use Rattle.std.specs.Prelude.{◌≡◌, ◌↔◌, ◌+◌, ◌^◌, ◌<◌, ◌≤◌, [], Err, OnOk, OnErr, filter, length, nat_lt, not, slice_get};
+ghost use Rattle.std.specs.Prelude.{◌≡◌, ◌↔◌, ◌+◌, ◌^◌, ◌<◌, ◌≤◌, [], Err, IfOk, IsTrue, OnOk, OnErr, filter, length, nat_lt, not, slice_get};
 ghost use Rattle.zl_rights.specs.Signals.{is_empty};
 ghost use Rattle.zl_port.specs.Packets.{MOST_USER_PACKETS, is_from, user_count, user_packet, with_packet, with_place, without_front, without_packets, without_place};
 
@@ -53,6 +53,25 @@ impl Port {
             reserved: 0,
             user_packets: 0,
         }
+    }
+
+    /// Another port like this one: the same packets in their order, and as many reserved places. Only
+    /// memory can be refused.
+    pub fn copy(&self, alloc: Global) -> Result<Port, AllocError>
+        ensures { IfOk result (λ port. port ≡ self.now) }
+    {
+        Ok(Port {
+            queue: self.queue.copy(alloc)?,
+            reserved: self.reserved,
+            user_packets: self.user_packets,
+        })
+    }
+
+    /// Whether the other port has the same packets in the same order.
+    pub fn has_same_packets(&self, other: &Port) -> bool
+        ensures { IsTrue result ↔ self.now.packets ≡ other.now.packets }
+    {
+        self.queue.has_same_packets(&other.queue)
     }
 
     /// Puts the packet of a call behind all others: type 0, with the key and the word.

@@ -1,10 +1,12 @@
-ghost use Rattle.std.specs.Prelude.{◌≡◌, ◌+◌, ◌^◌, ◌<◌, ◌≤◌, [], ◌∷◌, ◌++◌, drop, filter, length, not, slice_get, OnOk};
+ghost use Rattle.std.specs.Prelude.{◌≡◌, ◌↔◌, ◌+◌, ◌^◌, ◌<◌, ◌≤◌, [], ◌∷◌, ◌++◌, drop, filter, length, not, slice_get, IfOk, IsTrue, OnOk};
 ghost use Rattle.zl_rights.specs.Signals.{is_empty};
 ghost use Rattle.zl_port.specs.Packets.{is_from};
 
 use crate::buckets::bucket_for;
 use crate::packet::{Packet, Source};
-use crate::slots::{Slot, link, link_anew, make_place, take_first, take_from};
+use crate::slots::{
+    Slot, copied_slots, have_same_packets, link, link_anew, make_place, take_first, take_from,
+};
 use std::alloc::{AllocError, Global};
 use std::collections::VecDeque;
 use std::marker::Model;
@@ -50,6 +52,28 @@ impl Queue {
             count: 0,
             last: Vec::new(alloc),
         }
+    }
+
+    /// Another queue like this one, with the same room. Only memory can be refused.
+    pub(crate) fn copy(&self, alloc: Global) -> Result<Queue, AllocError>
+        ensures { IfOk result (λ queue. queue ≡ self.now) }
+    {
+        Ok(Queue {
+            slots: copied_slots(alloc, &self.slots)?,
+            front: self.front,
+            count: self.count,
+            last: self.last.to_vec(alloc)?,
+        })
+    }
+
+    /// Whether the other queue has the same packets in the same order.
+    pub(crate) fn has_same_packets(&self, other: &Queue) -> bool
+        ensures { IsTrue result ↔ self.now.packets ≡ other.now.packets }
+    {
+        if self.count != other.count {
+            return false;
+        }
+        have_same_packets(&self.slots, &other.slots)
     }
 
     /// How many packets there are.

@@ -1,4 +1,4 @@
-ghost use Rattle.std.specs.Prelude.{◌≡◌, ℕ, ◌+◌, ◌^◌, ◌<◌, ◌≤◌, List, IfSome, drop, filter, length, not, replicate, slice_get};
+ghost use Rattle.std.specs.Prelude.{◌≡◌, ◌↔◌, ℕ, ◌+◌, ◌^◌, ◌<◌, ◌≤◌, List, IfOk, IfSome, IsTrue, drop, filter, length, not, replicate, slice_get};
 ghost use Rattle.std.specs.Prelude.{if◌then◌else◌};
 ghost use Rattle.std.specs.VecDeque.{deque_capacity};
 ghost use Rattle.zl_port.specs.Buckets.{bucket, bucket_of};
@@ -7,6 +7,7 @@ ghost use Rattle.zl_port.specs.Chains.{AreLinked, emptied, is_other, last_above,
 
 use crate::buckets::bucket_of_packet;
 use crate::packet::{Packet, Source};
+use std::alloc::{AllocError, Global};
 use std::collections::VecDeque;
 
 /// A packet, or the empty place that a cancellation left.
@@ -21,6 +22,47 @@ pub(crate) struct Slot {
 
 /// Slots have numbers below this one.
 const NUMBERS: usize = 1 << 63;
+
+/// The same slots once more, with as many places.
+pub(crate) fn copied_slots(
+    alloc: Global,
+    slots: &VecDeque<Slot>,
+) -> Result<VecDeque<Slot>, AllocError>
+    ensures items { IfOk result (λ copied. copied.items ≡ slots.now.items) }
+    ensures capacity { IfOk result (λ copied. deque_capacity copied ≡ deque_capacity slots.now) }
+{
+    let mut copied = VecDeque::with_capacity(alloc, slots.capacity())?;
+    for slot in slots {
+        copied.push_back_reserved(Slot {
+            packet: slot.packet.copy(),
+            there: slot.there,
+            before: slot.before,
+        });
+    }
+    Ok(copied)
+}
+
+/// Whether both, which have as many packets, have the same ones in the same order.
+pub(crate) fn have_same_packets(one: &VecDeque<Slot>, other: &VecDeque<Slot>) -> bool
+    requires { length (packets_in one.now.items) ≡ length (packets_in other.now.items) }
+    ensures { IsTrue result ↔ packets_in one.now.items ≡ packets_in other.now.items }
+{
+    let mut place = 0;
+    let mut opposite = 0;
+    while place < one.len() && opposite < other.len() {
+        if !one[place].there {
+            place += 1;
+        } else if !other[opposite].there {
+            opposite += 1;
+        } else if one[place].packet.is_same(&other[opposite].packet) {
+            place += 1;
+            opposite += 1;
+        } else {
+            return false;
+        }
+    }
+    true
+}
 
 /// Links a slot, which is to have this number, behind the last one of its bucket.
 pub(crate) fn link(last: &mut Vec<usize>, slot: &mut Slot, number: usize)

@@ -1,5 +1,5 @@
 use crate::{Packet, PacketKind, Port, QueueFault, Source};
-use std::alloc::AllocError;
+use std::alloc::{AllocError, Global};
 use std::test::Fail;
 
 const SOURCE: Source = Source {
@@ -202,6 +202,71 @@ fn a_refused_place_is_found_once_more(rt: HostRuntime) -> Result<(), Fail> {
         assert_eq!(rt; key_of(port.pop()), Some(n + 20));
     }
     assert!(rt; port.pop().is_none());
+    Ok(())
+}
+
+/// Packets with the keys 1, 3, 1, 3 and 9, between which two are cancelled, and a reserved place.
+fn cancelled_between(alloc: Global) -> Result<Port, Fail> {
+    let mut port = Port::new(alloc);
+    for key in [1, 2, 3, 1, 2, 3, 9] {
+        queue_wait(&mut port, signal(SOURCE, key))?;
+    }
+    port.cancel(SOURCE, 2);
+    port.reserve_wait()?;
+    Ok(port)
+}
+
+/// One packet comes in the reserved place, and others are cancelled.
+fn goes_on(port: &mut Port) -> [Option<u64>; 5] {
+    if port.has_reserved() {
+        port.queue_signal(signal(SOURCE, 7));
+    }
+    if port.cancel(SOURCE, 3) != 2 || port.has_reserved() {
+        return [None; 5];
+    }
+    [
+        key_of(port.pop()),
+        key_of(port.pop()),
+        key_of(port.pop()),
+        key_of(port.pop()),
+        key_of(port.pop()),
+    ]
+}
+
+#[test]
+fn a_copy_goes_on_as_the_original(rt: HostRuntime) -> Result<(), Fail> {
+    let mut port = cancelled_between(rt.alloc())?;
+    let mut copied = port.copy(rt.alloc())?;
+    let keys = [Some(1), Some(1), Some(9), Some(7), None];
+    assert!(rt; port.has_same_packets(&copied));
+    assert_eq!(rt; goes_on(&mut copied), keys);
+    assert!(rt; !port.has_same_packets(&copied));
+    assert_eq!(rt; goes_on(&mut port), keys);
+    assert!(rt; port.has_same_packets(&copied));
+    assert!(rt; !copied.copy(rt.alloc())?.has_packet());
+    Ok(())
+}
+
+#[test]
+fn packets_are_compared_and_not_their_places(rt: HostRuntime) -> Result<(), Fail> {
+    let port = cancelled_between(rt.alloc())?;
+    let mut other = Port::new(rt.alloc());
+    for key in [1, 3, 1, 3] {
+        queue_wait(&mut other, signal(SOURCE, key))?;
+    }
+    assert!(rt; !port.has_same_packets(&other));
+    let mut differing = other.copy(rt.alloc())?;
+    queue_wait(&mut other, signal(SOURCE, 9))?;
+    assert!(rt; port.has_same_packets(&other));
+    assert!(rt; other.has_same_packets(&port));
+    queue_wait(
+        &mut differing,
+        Packet {
+            observed: 9,
+            ..signal(SOURCE, 9)
+        },
+    )?;
+    assert!(rt; !port.has_same_packets(&differing));
     Ok(())
 }
 

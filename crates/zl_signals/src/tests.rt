@@ -1,6 +1,6 @@
 use crate::{SignalState, Watch};
 use bitflags::Flags;
-use std::alloc::Global;
+use std::alloc::{AllocError, Global};
 use std::collections::VecDeque;
 use std::test::Fail;
 use zl_rights::{HValue, Koid, Pid, Signals};
@@ -164,6 +164,54 @@ fn a_refused_wait_is_found_nowhere(rt: HostRuntime) {
         }
         assert!(rt; state.unwatch_key(3, 4, 8, n).is_none());
     }
+}
+
+/// Copies the state, and once more where there was no memory for it.
+fn copied_again(state: &SignalState, alloc: Global) -> Result<SignalState, AllocError> {
+    match state.copy(alloc) {
+        Ok(copied) => Ok(copied),
+        Err(_) => state.copy(alloc),
+    }
+}
+
+/// One wait more comes, and all go, each by another way.
+fn goes_on(state: &mut SignalState) -> [Option<u64>; 6] {
+    let fired = order(state.fire(Signals::USER_0));
+    let by_handle = order(state.unwatch_handle(2, 4));
+    if !watch_again(state, watch(2, 1, 7, 6, Signals::SIGNALED, 50)) {
+        return [None; 6];
+    }
+    let next = state.next_order(Signals::SIGNALED);
+    let keyed = order(state.unwatch_key(2, 1, 7, 5));
+    state.end_port(7);
+    let at_port = order(state.unwatch_port(7));
+    [
+        fired,
+        by_handle,
+        next,
+        keyed,
+        at_port,
+        order(state.take_wait()),
+    ]
+}
+
+/// The first wait has gone before. Under `rt try --test --fail-alloc N` the Nth allocation is
+/// refused; else each call succeeds.
+#[test]
+fn a_copy_goes_on_as_the_original(rt: HostRuntime) -> Result<(), Fail> {
+    let mut state = SignalState::new(rt.alloc());
+    assert!(rt; watch_again(&mut state, watch(2, 1, 7, 5, Signals::SIGNALED, 0)));
+    assert!(rt; watch_again(&mut state, watch(2, 1, 7, 5, Signals::SIGNALED, 10)));
+    assert!(rt; watch_again(&mut state, watch(3, 1, 8, 5, Signals::SIGNALED, 20)));
+    assert!(rt; watch_again(&mut state, watch(2, 1, 8, 6, Signals::USER_0, 30)));
+    assert!(rt; watch_again(&mut state, watch(2, 4, 7, 5, Signals::SIGNALED, 40)));
+    assert_eq!(rt; order(state.fire(Signals::SIGNALED)), Some(0));
+    let mut copied = copied_again(&state, rt.alloc())?;
+    let answers = [Some(30), Some(40), Some(10), Some(10), None, Some(20)];
+    assert_eq!(rt; goes_on(&mut copied), answers);
+    assert_eq!(rt; goes_on(&mut state), answers);
+    assert!(rt; !copied_again(&copied, rt.alloc())?.has_waits());
+    Ok(())
 }
 
 /// The order of the first wait of a plain list that is for one of these signals, which goes.

@@ -1,4 +1,5 @@
 pub mod Common
+pub mod Alike
 pub mod Bare
 pub mod Bodies
 pub mod Budget

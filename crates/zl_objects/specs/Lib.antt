@@ -18,3 +18,4 @@ pub mod PortWaits
 pub mod Due
 pub mod Gapped
 pub mod Groups
+pub mod Same

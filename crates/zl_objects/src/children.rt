@@ -16,7 +16,7 @@ use zl_rights::Koid;
 /// The jobs and processes directly below each job, dead ones too, and of each kind the living ones
 /// once more. Who asks for a living one looks at the object too: one that died and is still listed
 /// as living changes no answer, but takes time.
-#[derive(Drop)]
+#[derive(Clone, Drop)]
 pub(crate) struct Children {
     // The koid of the job, and that of the child.
     pairs: BTreeSet<(Koid, Koid)>,

@@ -1,7 +1,7 @@
 //! The list of all waits with a gap in it: where entries at neighbouring places go one after another,
 //! none is moved.
 
-ghost use Rattle.std.specs.Prelude.{[], ◌≡◌, ◌+◌, ◌<◌, ◌≤◌, ◌^◌, ◌++◌, ◌∷◌, ◌==◌, length, map, slice_get, IsTrue, IsSome, OnOk, OnSome};
+ghost use Rattle.std.specs.Prelude.{[], ◌≡◌, ◌+◌, ◌<◌, ◌≤◌, ◌^◌, ◌++◌, ◌∷◌, ◌==◌, length, map, slice_get, IfOk, IsTrue, IsSome, OnOk, OnSome};
 ghost use Rattle.std.specs.FinMap.Entries.{is_sorted};
 ghost use Rattle.std.specs.List.{position};
 ghost use Rattle.std.specs.Ordering.{nat_cmp};
@@ -54,6 +54,25 @@ impl Gapped {
         }
     }
 
+    /// The same entries once more, with the gap where it is, and as much room.
+    pub fn copy(&self, alloc: Global) -> Result<Gapped, AllocError>
+        ensures { IfOk result (λ gapped. gapped ≡ self.now) }
+    {
+        Ok(Gapped {
+            before: copied_part(alloc, &self.before)?,
+            after: copied_part(alloc, &self.after)?,
+            room: self.room,
+            spent: self.spent,
+        })
+    }
+
+    /// How many entries there are.
+    pub fn len(&self) -> usize
+        ensures { result ≡ length self.now.items }
+    {
+        self.before.len() + self.after.len()
+    }
+
     /// Whether there is no entry.
     pub fn is_empty(&self) -> bool
         ensures { result ≡ (length self.now.items == 0) }
@@ -66,7 +85,7 @@ impl Gapped {
         ensures items { self.new.items ≡ self.old.items }
         ensures room { OnOk result (length self.new.items < self.new.room) }
     {
-        let count = self.before.len() + self.after.len();
+        let count = self.len();
         if count < self.room {
             return Ok(());
         }
@@ -138,6 +157,18 @@ impl Gapped {
         self.before.clear();
         self.after.clear();
     }
+}
+
+/// The same part once more, with as much room.
+fn copied_part(alloc: Global, part: &VecDeque<Listed>) -> Result<VecDeque<Listed>, AllocError>
+    ensures items { IfOk result (λ copy. copy.items ≡ part.now.items) }
+    ensures room { IfOk result (λ copy. deque_capacity part.now ≤ deque_capacity copy) }
+{
+    let (first, rest) = part.as_slices();
+    let mut copy = Vec::with_capacity(alloc, part.capacity())?;
+    copy.extend_from_slice(first)?;
+    copy.extend_from_slice(rest)?;
+    Ok(VecDeque::from_vec(copy))
 }
 
 /// Where the entry of this order stands in this part.

@@ -1,12 +1,13 @@
 //! What is waited for at each koid by all that may be blocked there, taken together.
 
-ghost use Rattle.std.specs.Prelude.{◌≡◌, ◌==◌, false, slice_get};
+ghost use Rattle.std.specs.Prelude.{◌≡◌, ◌==◌, false, slice_get, IfOk};
 ghost use Rattle.std.specs.List.Sorted.{IsNonDecreasingBy};
 ghost use Rattle.zl_objects.specs.declared.awaited.Awaited.{Awaited as AwaitedValue};
 ghost use Rattle.zl_objects.specs.Awaited.{koid_of};
 ghost use Rattle.zl_objects.specs.Groups.{empty_group, is_group_at, joined, may_wake, sees, Counts, Covers, IsGroupPlace};
 
 use crate::awaited::Awaited;
+use crate::copying::copied;
 use std::alloc::{AllocError, Global};
 use zl_rights::Koid;
 
@@ -67,6 +68,17 @@ impl Groups {
         Ok(Groups {
             list: Vec::with_capacity(alloc, room)?,
             crowded: false,
+        })
+    }
+
+    /// The same groups once more, with as much room.
+    pub fn copy(&self, alloc: Global) -> Result<Groups, AllocError>
+        ensures list { IfOk result (λ groups. groups.list.items ≡ self.now.list.items) }
+        ensures crowded { IfOk result (λ groups. groups.crowded ≡ self.now.crowded) }
+    {
+        Ok(Groups {
+            list: copied(alloc, &self.list)?,
+            crowded: self.crowded,
         })
     }
 

@@ -5,15 +5,17 @@
 //! of each operation; that in every world that the objects fit, `release`, `remove_unheld` and `kill`
 //! leave the largest held set and nothing else where something kept each other object before; that with
 //! a process that ends goes what nothing keeps any more; that just those waits are left whose object and
-//! port are, and just their places stay reserved at ports; and that nothing but making an object,
-//! sending, registering a wait and queueing a packet of a call can be refused memory. Its type keeps
-//! that the list of all waits has those of each object in their order. Where a method names no source,
-//! that of its type is meant.
+//! port are, and just their places stay reserved at ports; that a copy of all has the same, and whether
+//! others look the same; and that nothing but making an object, sending, registering a wait, queueing a
+//! packet of a call and copying can be refused memory. Its type keeps that the list of all waits has
+//! those of each object in their order. Where a method names no source, that of its type is meant.
 #![tactic(auto)]
 
 mod awaited;
 mod below;
 mod children;
+mod comparing;
+mod copying;
 mod due;
 mod gapped;
 mod groups;

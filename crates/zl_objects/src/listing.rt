@@ -1,6 +1,6 @@
 //! The list of all registered waits, the earliest first, beside the waits at the objects.
 
-ghost use Rattle.std.specs.Prelude.{[], false, take, IfSome, ◌≡◌, ◌+◌, ◌++◌, ◌∷◌, ◌==◌, ◌<◌, ◌≤◌, ◌^◌, not, map, option_map, slice_get, IsTrue, OnErr, OnSome, OnOk};
+ghost use Rattle.std.specs.Prelude.{[], false, take, IfOk, IfSome, ◌≡◌, ◌+◌, ◌++◌, ◌∷◌, ◌==◌, ◌<◌, ◌≤◌, ◌^◌, not, map, option_map, slice_get, IsTrue, OnErr, OnSome, OnOk};
 ghost use Rattle.std.specs.FinMap.Entries.{is_sorted};
 ghost use Rattle.std.specs.List.{filter, find, list_any, All};
 ghost use Rattle.std.specs.Ordering.{nat_cmp};
@@ -47,6 +47,18 @@ impl WaitList {
             by_port: PortWaits::new(alloc),
             made: 0,
         }
+    }
+
+    /// The same waits once more, with as much room.
+    pub fn copy(&self, alloc: Global) -> Result<WaitList, AllocError>
+        ensures entries { IfOk result (λ waits. waits.entries.items ≡ self.now.entries.items) }
+        ensures made { IfOk result (λ waits. waits.made ≡ self.now.made) }
+    {
+        Ok(WaitList {
+            entries: self.entries.copy(alloc)?,
+            by_port: self.by_port.clone()?,
+            made: self.made,
+        })
     }
 
     /// Lists the wait behind all others. Where memory is refused, nothing changes.

@@ -4,6 +4,7 @@ ghost use Rattle.std.specs.Prelude.{ℕ, ◌≡◌, ◌==◌, false, true, IfOk,
 ghost use Rattle.std.specs.List.{list_any};
 ghost use Rattle.zl_objects.specs.Calm.{is_marked};
 
+use crate::copying::copied;
 use std::alloc::{AllocError, Global};
 use zl_rights::Koid;
 
@@ -26,6 +27,17 @@ impl Marks {
         Ok(Marks {
             koids: Vec::with_capacity(alloc, Marks::ROOM)?,
             all: false,
+        })
+    }
+
+    /// The same marks once more, with as much room.
+    pub fn copy(&self, alloc: Global) -> Result<Marks, AllocError>
+        ensures koids { IfOk result (λ marks. marks.koids.items ≡ self.now.koids.items) }
+        ensures all { IfOk result (λ marks. marks.all ≡ self.now.all) }
+    {
+        Ok(Marks {
+            koids: copied(alloc, &self.koids)?,
+            all: self.all,
         })
     }
 

@@ -9,7 +9,7 @@ use std::ops::Bound;
 use zl_rights::Koid;
 
 /// The waits of each port, by how many were registered before them.
-#[derive(Drop)]
+#[derive(Clone, Drop)]
 pub(crate) struct PortWaits {
     // The koid of the port, and the number of the wait.
     pairs: BTreeSet<(Koid, u64)>,

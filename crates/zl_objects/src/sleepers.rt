@@ -12,6 +12,7 @@ ghost use Rattle.zl_objects.specs.Index.{IsIndexed};
 
 use crate::awaited::{Awaited, Sleeper};
 use crate::children::Children;
+use crate::copying::copied;
 use crate::groups::{Group, Groups};
 use crate::object::Object;
 use crate::signals::signals_at;
@@ -46,6 +47,18 @@ impl Sleepers {
             list: Vec::with_capacity(alloc, Sleepers::ROOM)?,
             crowded: false,
             groups: Groups::new(alloc, Sleepers::ROOM)?,
+        })
+    }
+
+    /// The same ones once more, with as much room.
+    pub fn copy(&self, alloc: Global) -> Result<Sleepers, AllocError>
+        ensures list { IfOk result (λ sleepers. sleepers.list.items ≡ self.now.list.items) }
+        ensures crowded { IfOk result (λ sleepers. sleepers.crowded ≡ self.now.crowded) }
+    {
+        Ok(Sleepers {
+            list: copied(alloc, &self.list)?,
+            crowded: self.crowded,
+            groups: self.groups.copy(alloc)?,
         })
     }
 

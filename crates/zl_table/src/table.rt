@@ -98,6 +98,7 @@ impl Table {
     pub fn is_same(&self, other: &Table) -> bool
         ensures { IsTrue result ↔ self.now ≡ other.now }
     {
+        // How many values were made follows from the rest, but tells many tables apart at once.
         if self.made != other.made || self.last != other.last {
             return false;
         }

@@ -3,3 +3,4 @@ pub mod Above
 pub mod lists
 pub mod tables
 pub mod objects
+pub mod Counted

@@ -25,3 +25,5 @@ pub mod Turns
 pub mod Killing
 pub mod Calling
 pub mod Taken
+pub mod Rested
+pub mod Same

@@ -11,6 +11,8 @@
 
 mod boot;
 mod calls;
+mod comparing;
+mod copying;
 mod parts;
 mod policy;
 mod process;

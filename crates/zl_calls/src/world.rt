@@ -7,6 +7,7 @@ ghost use Rattle.zl_code.specs.declared.boot.BootCause.TheVariants.{NoMemory};
 ghost use Rattle.zl_code.specs.Boot.{IsBoot, FirstFault, MOST_ITEMS};
 ghost use Rattle.zl_code.specs.OwnBoot.{own_boot};
 ghost use Rattle.zl_code.specs.Headline.{IsSizedBoot};
+ghost use Rattle.zl_code.specs.Sound.{IsSound};
 ghost use Rattle.zl_code.specs.Starting.{program_of};
 ghost use Rattle.zl_code.specs.Steps.{Runs};
 ghost use Rattle.zl_calls.specs.World.{call_for, state_in, is_ready_in, own_here};
@@ -14,11 +15,13 @@ ghost use Rattle.zl_calls.specs.Makes.{IsReached};
 ghost use Rattle.zl_calls.specs.Steps.{Performs, StepsTo, local_item, takes_memory};
 ghost use Rattle.zl_calls.specs.Own.{StepsOwn};
 ghost use Rattle.zl_calls.specs.Turns.{Fits, IsTurn, advanced, steps_done};
+ghost use Rattle.zl_calls.specs.Rested.{own_rested};
 ghost use Rattle.zl_calls.specs.Started.{StepsAndTells};
 ghost use Rattle.zl_calls.specs.Killed.{TellsKilled};
 ghost use Rattle.zl_calls.specs.Told.{killed_of, woke_of, FitsItem};
 
 use crate::boot::{Made, booted};
+use crate::comparing::are_same_processes;
 use crate::parts::Parts;
 use crate::processes::Processes;
 use crate::step::taken::Taken;
@@ -128,6 +131,46 @@ impl World {
                 taken: Taken::none(alloc),
             },
         })
+    }
+
+    /// Another world like this one, of the same programs: it goes on as this one does. Only memory can
+    /// be refused.
+    ///
+    /// Source: own profile.
+    pub fn copy(&self) -> Result<World, AllocError>
+        ensures { IfOk result (λ world. world ≡ self.now) }
+    {
+        Ok(World {
+            alloc: self.alloc,
+            library: self.library.copy(self.alloc)?,
+            parts: self.parts.copy(self.alloc)?,
+        })
+    }
+
+    /// Whether the other world is the same for what comes: each process, with the values that its new
+    /// handles get, the objects, the registered waits, and who is blocked. What a process computed with
+    /// that is over doesn't count, and of which programs the worlds are isn't asked.
+    ///
+    /// Source: own profile.
+    pub fn is_same(&self, other: &World) -> bool
+        ensures { IsTrue result
+            ↔ own_rested (own_here self.now) ≡ own_rested (own_here other.now) }
+    {
+        if self.parts.blocked.as_slice() != other.parts.blocked.as_slice() {
+            return false;
+        }
+        if !are_same_processes(&self.parts.processes.list, &other.parts.processes.list) {
+            return false;
+        }
+        self.parts.objects.is_same(&other.parts.objects)
+    }
+
+    /// Does nothing: callers learn here what is true of every running world.
+    #[inline(always)]
+    pub fn soundness(&self)
+        ensures { IsSound self.now.world }
+    {
+        let _ = &self.library;
     }
 
     /// The programs that its processes may run.

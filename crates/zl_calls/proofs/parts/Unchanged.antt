@@ -1,5 +1,5 @@
 -- What two parts of a world have alike that are the same.
-use Rattle.zl_calls.proofs.Common.{List, Objects, Process, ap, ℕ, ◌≡◌}
+use Rattle.zl_calls.proofs.Common.{ap, ◌≡◌}
 use Rattle.zl_calls.specs.declared.parts.Parts.{Parts}
 
 pub same_processes : {all all2 : Parts} → all2 ≡ all → all2.processes.list.items ≡ all.processes.list.items

@@ -1,0 +1,156 @@
+-- What stays true as states are met.
+use Rattle.std.proofs.Common.{List, Some, [], ap, append-nil, arith, get_or, length, length-append, refl, slice_get, subst, sym, ℕ, ◌++◌, ◌+◌, ◌<◌, ◌∙◌}
+use Rattle.std.proofs.Common.{◌∷◌, ◌≡◌, ◌≤◌}
+use Rattle.std.proofs.lemmas.Option.{same_Some, slice_get_within, slice_get_read}
+use Rattle.std.proofs.lemmas.List.{append_assoc}
+use Rattle.std.proofs.lemmas.Bool.{cases_lt}
+use mathlib.Core.Logic.{inl, inr}
+use Rattle.zl_explore.specs.Paths.{IsIn}
+use Rattle.zl_explore.specs.Nodes.{IsMet, ComesFrom, IsTree, IsWidened, AreWidened, Grows}
+use Rattle.zl_explore.specs.declared.search.Node.{Node}
+use Rattle.zl_explore.proofs.Lists.{get_left, get_last, get_either, get_below}
+
+module _ {S : Type 0} (ready : S → List ℕ) (next : S → ℕ → S) where
+  pub met_more : (nodes more : List (Node S)) (s : S) → IsMet ready next nodes s → IsMet ready next (nodes ++ more) s
+  met_more nodes more s met = record { place = met.place; node = met.node; there = get_left nodes more met.place met.node met.there; is = met.is }
+
+  pub met_last : (nodes : List (Node S)) (n : Node S) → IsMet ready next (nodes ++ (n ∷ [])) n.at
+  met_last nodes n = record { place = length nodes; node = n; there = get_last nodes n; is = refl }
+
+  comes_more : (nodes more : List (Node S)) (place : ℕ) (n : Node S) → ComesFrom ready next nodes place n → ComesFrom ready next (nodes ++ more) place n
+  comes_more nodes more place n comes = record {
+    earlier = comes.earlier;
+    node = comes.node;
+    there = get_left nodes more n.from comes.node comes.there;
+    is_ready = comes.is_ready;
+    leads = comes.leads;
+  }
+
+  -- one more state that comes from an earlier one
+  pub tree_push : (start : S) (nodes : List (Node S)) (n : Node S) → ComesFrom ready next nodes (length nodes) n → IsTree ready next start nodes
+      → IsTree ready next start (nodes ++ (n ∷ []))
+  tree_push start nodes n comes tree = record {
+    root = tree.root;
+    first = get_left nodes (n ∷ []) 0 tree.root tree.first;
+    starts = tree.starts;
+    others = λ place m above there. elim (get_either nodes n place m there) [
+      | inl old ↦ comes_more nodes (n ∷ []) place m (tree.others place m above old)
+      | inr new ↦ comes_more nodes (n ∷ []) place m (subst (λ (k : ℕ). ComesFrom ready next nodes k m) (sym new.0) (subst (λ
+          (k : Node S). ComesFrom ready next nodes (length nodes) k) new.1 comes))
+    ];
+  }
+
+  pub widened_more : (nodes more : List (Node S)) (count : ℕ) → count ≤ length nodes → AreWidened ready next nodes count
+      → AreWidened ready next (nodes ++ more) count
+  unfolding IsWidened AreWidened
+  widened_more nodes more count few widened = λ i n below there p is_in.
+      met_more nodes more (next n.at p) (widened i n below (get_below nodes more i n (omega (arith, below, few)) there) p is_in)
+
+  module _ (old : List (Node S)) (place : ℕ) (pids : List ℕ) where
+    pub grows_none : (new : List (Node S)) → new ≡ old → Grows ready next old place pids 0 new
+    grows_none new same = record {
+      more = [];
+      items = same ∙ sym (append-nil old);
+      tree = λ start tree. subst (λ (x : List (Node S)). IsTree ready next start x) (sym same) tree;
+      taken = λ n i p there below at. absurd (omega (arith, below));
+    }
+
+    take_one : (count : ℕ) (pid : ℕ) (new : List (Node S)) → slice_get pids count ≡ Some pid
+        → ((n : Node S) (i p : ℕ) → slice_get old place ≡ Some n → i < count → slice_get pids i ≡ Some p → IsMet ready next new (next n.at p))
+        → ((n : Node S) → slice_get old place ≡ Some n → IsMet ready next new (next n.at pid))
+        → (n : Node S) (i p : ℕ) → slice_get old place ≡ Some n → i < count + 1 → slice_get pids i ≡ Some p → IsMet ready next new (next n.at p)
+    take_one count pid new is before here n i p there below at = elim (cases_lt i count) [
+      | inl less ↦ before n i p there less at
+      | inr more ↦
+          let same : i ≡ count = omega (arith, below, more) in
+          let pid_is : pid ≡ p = same_Some pid p (sym is ∙ subst (λ (k : ℕ). slice_get pids k ≡ Some p) same at) in
+          subst (λ (q : ℕ). IsMet ready next new (next n.at q)) pid_is (here n there)
+    ]
+
+    -- the turn led to a state that was met
+    pub grows_same : (count pid : ℕ) (new : List (Node S)) (n : Node S) → slice_get old place ≡ Some n → slice_get pids count ≡ Some pid
+        → IsMet ready next new (next n.at pid) → Grows ready next old place pids count new → Grows ready next old place pids (count + 1) new
+    grows_same count pid new n there is met grows = record {
+      more = grows.more;
+      items = grows.items;
+      tree = grows.tree;
+      taken = take_one count pid new is grows.taken (λ m m_there.
+          subst (λ (k : Node S). IsMet ready next new (next k.at pid)) (same_Some n m (sym there ∙ m_there)) met);
+    }
+
+    -- it led to a new one
+    pub grows_push : (count pid : ℕ) (new : List (Node S)) (n : Node S) (last : Node S) → slice_get old place ≡ Some n → slice_get pids count ≡ Some pid
+        → IsIn (ready n.at) pid → last.at ≡ next n.at pid → last.from ≡ place → last.by ≡ pid
+        → Grows ready next old place pids count new → Grows ready next old place pids (count + 1) (new ++ (last ∷ []))
+    grows_push count pid new n last there is is_in leads from by grows =
+        let there_new : slice_get new place ≡ Some n =
+        subst (λ (x : List (Node S)). slice_get x place ≡ Some n) (sym grows.items) (get_left old grows.more place n there) in
+        let comes : ComesFrom ready next new (length new) last = record {
+          earlier = subst (λ (k : ℕ). k < length new) (sym from) (slice_get_within new place n there_new);
+          node = n;
+          there = subst (λ (k : ℕ). slice_get new k ≡ Some n) (sym from) there_new;
+          is_ready = subst (λ (k : ℕ). IsIn (ready n.at) k) (sym by) is_in;
+          leads = leads ∙ ap (next n.at) (sym by);
+        } in record {
+          more = grows.more ++ (last ∷ []);
+          items = ap (λ (x : List (Node S)). x ++ (last ∷ [])) grows.items ∙ append_assoc old grows.more (last ∷ []);
+          tree = λ start tree. tree_push start new last comes (grows.tree start tree);
+          taken = take_one count pid (new ++ (last ∷ [])) is
+              (λ m i p m_there below at. met_more new (last ∷ []) (next m.at p) (grows.taken m i p m_there below at))
+              (λ m m_there. subst (λ (k : Node S). IsMet ready next (new ++ (last ∷ [])) (next k.at pid)) (same_Some n m (sym there ∙ m_there))
+              (subst (λ (s : S). IsMet ready next (new ++ (last ∷ [])) s) leads (met_last new last)));
+        }
+
+    pub grows_longer : (count : ℕ) (new : List (Node S)) → Grows ready next old place pids count new → length old ≤ length new
+    grows_longer count new grows = omega (arith, ap length grows.items, length-append old grows.more)
+
+    pub grows_earlier : (count : ℕ) (new : List (Node S)) → place < length old → Grows ready next old place pids count new
+        → AreWidened ready next old place → AreWidened ready next new place
+    grows_earlier count new within grows widened =
+        subst (λ (x : List (Node S)). AreWidened ready next x place) (sym grows.items) (widened_more old grows.more place (omega (arith, within)) widened)
+
+    -- all turns were taken
+    pub grows_widened : (count : ℕ) (new : List (Node S)) (n : Node S) → slice_get old place ≡ Some n → pids ≡ ready n.at → length pids ≤ count
+        → Grows ready next old place pids count new → AreWidened ready next old place → AreWidened ready next new (place + 1)
+    unfolding IsWidened AreWidened
+    grows_widened count new n there are enough grows widened = λ i m below m_there p is_in. elim (cases_lt i place) [
+      | inl less ↦ grows_earlier count new (slice_get_within old place n there) grows widened i m less m_there p is_in
+      | inr more ↦
+          let same : i ≡ place = omega (arith, below, more) in
+          let there_new : slice_get new i ≡ Some n =
+          subst (λ (k : ℕ). slice_get new k ≡ Some n) (sym same)
+          (subst (λ (x : List (Node S)). slice_get x place ≡ Some n) (sym grows.items) (get_left old grows.more place n there)) in
+          let m_is : n ≡ m = same_Some n m (sym there_new ∙ m_there) in
+          let at : slice_get (ready n.at) is_in.0 ≡ Some p = subst (λ (k : Node S). slice_get (ready k.at) is_in.0 ≡ Some p) (sym m_is) is_in.1 in
+          let at_pid : slice_get pids is_in.0 ≡ Some p = subst (λ (x : List ℕ). slice_get x is_in.0 ≡ Some p) (sym are) at in
+          subst (λ (k : Node S). IsMet ready next new (next k.at p)) m_is
+          (grows.taken n is_in.0 p there (omega (arith, enough, slice_get_within pids is_in.0 p at_pid)) at_pid)
+    ]
+
+  -- the start alone
+  pub tree_one : (start : S) (before new : List (Node S)) (root : Node S) → before ≡ [] → new ≡ before ++ (root ∷ []) → root.at ≡ start
+      → IsTree ready next start new
+  tree_one start before new root none is starts =
+      let new_is : new ≡ root ∷ [] = is ∙ ap (λ (x : List (Node S)). x ++ (root ∷ [])) none in
+      subst (λ (x : List (Node S)). IsTree ready next start x) (sym new_is) (record {
+        root = root;
+        first = refl;
+        starts = starts;
+        others = λ place n above there. absurd (omega (arith, above, slice_get_within (root ∷ []) place n there));
+      })
+
+  pub widened_none : (nodes : List (Node S)) → AreWidened ready next nodes 0
+  unfolding AreWidened
+  widened_none nodes = λ i n below there. absurd (omega (arith, below))
+
+  pub widened_all : (nodes : List (Node S)) (count : ℕ) → length nodes ≤ count → AreWidened ready next nodes count → AreWidened ready next nodes (length nodes)
+  unfolding AreWidened
+  widened_all nodes count enough widened = λ i n below there. widened i n (omega (arith, below, enough)) there
+
+  -- the state that is read at the place is still the same
+  pub same_node : (old : List (Node S)) (place : ℕ) (pids : List ℕ) (count : ℕ) (new : List (Node S)) (n m : Node S) → slice_get old place ≡ Some n
+      → Grows ready next old place pids count new → m ≡ get_or new place m → n ≡ m
+  same_node old place pids count new n m there grows read =
+      let there_new : slice_get new place ≡ Some n =
+      subst (λ (x : List (Node S)). slice_get x place ≡ Some n) (sym grows.items) (get_left old grows.more place n there) in
+      same_Some n m (sym there_new ∙ slice_get_read new _ place m refl (slice_get_within new place n there_new) read)

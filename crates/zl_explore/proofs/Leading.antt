@@ -1,0 +1,46 @@
+-- The turns that lead to a state that was met, read back from it to the first.
+use Rattle.std.proofs.Common.{◌≡◌, ◌<◌, ◌∙◌, ℕ, zero, suc, List, [], ◌∷◌, length, refl, sym, subst, arith, IfSome, Option, Some, slice_get}
+use Rattle.std.proofs.lemmas.Option.{same_Some}
+use Rattle.zl_explore.specs.Nodes.{IsTree, LeadsTo}
+use Rattle.zl_explore.specs.Paths.{IsPath, after}
+use Rattle.zl_explore.specs.declared.search.Node.{Node}
+
+pub there_is : {X : Type 0} (xs : List X) (i : ℕ) → i < length xs → (x : X) × (slice_get xs i ≡ Some x)
+there_is [] i within = absurd (omega (arith, within))
+there_is (x ∷ xs) zero within = (x, refl)
+there_is (x ∷ xs) (suc i) within = there_is xs i (omega (arith, within))
+
+module _ {S : Type 0} (ready : S → List ℕ) (next : S → ℕ → S) (nodes : List (Node S)) where
+  -- no turn leads from a state to itself
+  pub leads_none : (place : ℕ) (turns : List ℕ) → place < length nodes → turns ≡ [] → LeadsTo ready next nodes place place turns
+  unfolding IsPath after
+  leads_none place turns within none = let (n, there) = there_is nodes place within in rw none (record {
+    from = n;
+    there = there;
+    to = n;
+    to_there = there;
+    is_path = tt;
+    leads = refl;
+  })
+
+  -- nodes with a first one that they all come from
+  pub rooted : IfSome (slice_get nodes 0) (λ root. IsTree ready next root.at nodes) → 0 < length nodes → (start : S) × IsTree ready next start nodes
+  rooted tree some =
+      let (root, there) = there_is nodes 0 some in
+      (root.at, subst (λ (found : Option (Node S)). IfSome found (λ r. IsTree ready next r.at nodes)) there tree)
+
+  -- the turn that led to it stands before them
+  pub leads_more : (start : S) → IsTree ready next start nodes → (place target : ℕ) (n : Node S) (turns : List ℕ) → 0 < place → slice_get nodes place ≡ Some n
+      → LeadsTo ready next nodes place target turns → LeadsTo ready next nodes n.from target (n.by ∷ turns)
+  unfolding IsPath after
+  leads_more start tree place target n turns above there leads =
+      let comes = tree.others place n above there in
+      let same : leads.from ≡ n = same_Some leads.from n (sym leads.there ∙ there) in
+      let at : leads.from.at ≡ next comes.node.at n.by = (λ i. (same i).at) ∙ comes.leads in record {
+        from = comes.node;
+        there = comes.there;
+        to = leads.to;
+        to_there = leads.to_there;
+        is_path = (comes.is_ready, subst (λ (s : S). IsPath ready next s turns) at leads.is_path);
+        leads = subst (λ (s : S). after ready next s turns ≡ leads.to.at) at leads.leads;
+      }

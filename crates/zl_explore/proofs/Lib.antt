@@ -1,0 +1,16 @@
+pub mod Lists
+pub mod Filtered
+pub mod ReadyProcess
+pub mod Growing
+pub mod Complete
+pub mod Leading
+pub mod Reduced
+pub mod Beside
+pub mod BesideCalls
+pub mod BesideSteps
+pub mod Over
+pub mod Resting
+pub mod Ordered
+pub mod Turns
+pub mod Machines
+pub mod Steps

@@ -1,6 +1,7 @@
-//! Tests of `zl_table`, `zl_objects`, `zl_code`, `zl_verify`, `zl_asm`, `zl_interp` and `zl_sched`, of
-//! what none of their clauses says and nobody sees of the program from outside; and by the definitions
-//! a run of a checked process through each call, and worlds with as many handles and waits as may be.
+//! Tests of `zl_table`, `zl_objects`, `zl_code`, `zl_verify`, `zl_asm`, `zl_interp`, `zl_calls`,
+//! `zl_sched` and `zl_explore`, of what none of their clauses says and nobody sees of the program from
+//! outside; and by the definitions a run of a checked process through each call, and worlds with as
+//! many handles and waits as may be.
 //!
 //! It stands on them and has nothing of its own: a crate with tests is proved twice, with them and
 //! without, and nothing waits for this one.
@@ -14,6 +15,8 @@ mod check_tests;
 mod image_tests;
 #[cfg(test)]
 mod object_tests;
+#[cfg(test)]
+mod order_tests;
 #[cfg(test)]
 mod quiet_tests;
 #[cfg(test)]

@@ -9,7 +9,8 @@ use crate::machine::Machine;
 use std::alloc::{AllocError, Global};
 use zl_rights::Pid;
 
-/// A state that was met, the place of the one that it was met from, and the process whose turn led to it.
+/// A state that was met, the place of the one that it was met from, and the process whose turn led to
+/// it.
 #[derive(Drop)]
 pub struct Node<M> {
     pub at: M,
@@ -67,10 +68,12 @@ fn widen<M: Machine>(
     Ok(true)
 }
 
-/// Takes all turns from the start on, until there is nothing new or there would be more than so many states.
+/// Takes all turns from the start on, until there is nothing new or there would be more than so many
+/// states.
 pub fn explore<M: Machine>(alloc: Global, start: M, most: usize) -> Result<Explored<M>, AllocError>
     ensures tree { IfOk result (λ e. IsTree M.ready M.next start e.nodes.items) }
-    ensures all { IfOk result (λ e. IsTrue e.all → AreWidened M.ready M.next e.nodes.items (length e.nodes.items)) }
+    ensures all { IfOk result (λ e. IsTrue e.all
+        → AreWidened M.ready M.next e.nodes.items (length e.nodes.items)) }
 {
     let mut nodes = Vec::new(alloc);
     nodes.push(Node {
@@ -92,8 +95,8 @@ pub fn explore<M: Machine>(alloc: Global, start: M, most: usize) -> Result<Explo
     Ok(Explored { nodes, all: true })
 }
 
-/// All that was asked: each state that was met is reached by turns, and, where all were met, each end of each order
-/// of turns is among them.
+/// All that was asked: each state that was met is reached by turns, and, where all were met, each end
+/// of each order of turns is among them.
 pub fn all_orders<M: Machine>(
     alloc: Global,
     start: M,

@@ -1,14 +1,14 @@
 -- What stays true as states are met.
-use Rattle.std.proofs.Common.{List, Some, [], ap, append-nil, arith, get_or, length, length-append, refl, slice_get, subst, sym, ℕ, ◌++◌, ◌+◌, ◌<◌, ◌∙◌}
-use Rattle.std.proofs.Common.{◌∷◌, ◌≡◌, ◌≤◌}
+use Rattle.std.proofs.Common.{List, Some, [], ap, append-nil, arith, get_or, length, refl, slice_get, subst, sym, ℕ, ◌++◌, ◌+◌, ◌<◌, ◌∙◌}
+use Rattle.std.proofs.Common.{IfSome, Option, ◌∷◌, ◌≡◌, ◌≤◌}
 use Rattle.std.proofs.lemmas.Option.{same_Some, slice_get_within, slice_get_read}
 use Rattle.std.proofs.lemmas.List.{append_assoc}
 use Rattle.std.proofs.lemmas.Bool.{cases_lt}
 use mathlib.Core.Logic.{inl, inr}
 use Rattle.zl_explore.specs.Paths.{IsIn}
-use Rattle.zl_explore.specs.Nodes.{IsMet, ComesFrom, IsTree, IsWidened, AreWidened, Grows}
+use Rattle.zl_explore.specs.Nodes.{IsMet, ComesFrom, IsTree, IsWidened, AreWidened, Extends, Grows}
 use Rattle.zl_explore.specs.declared.search.Node.{Node}
-use Rattle.zl_explore.proofs.Lists.{get_left, get_last, get_either, get_below}
+use Rattle.zl_explore.proofs.Lists.{get_left, get_last, get_either, get_below, there_is}
 
 module _ {S : Type 0} (ready : S → List ℕ) (next : S → ℕ → S) where
   pub met_more : (nodes more : List (Node S)) (s : S) → IsMet ready next nodes s → IsMet ready next (nodes ++ more) s
@@ -101,8 +101,8 @@ module _ {S : Type 0} (ready : S → List ℕ) (next : S → ℕ → S) where
               (subst (λ (s : S). IsMet ready next (new ++ (last ∷ [])) s) leads (met_last new last)));
         }
 
-    pub grows_longer : (count : ℕ) (new : List (Node S)) → Grows ready next old place pids count new → length old ≤ length new
-    grows_longer count new grows = omega (arith, ap length grows.items, length-append old grows.more)
+    pub grows_extends : (count : ℕ) (new : List (Node S)) → Grows ready next old place pids count new → Extends old new
+    grows_extends count new grows = (grows.more, grows.items)
 
     pub grows_earlier : (count : ℕ) (new : List (Node S)) → place < length old → Grows ready next old place pids count new
         → AreWidened ready next old place → AreWidened ready next new place
@@ -154,3 +154,10 @@ module _ {S : Type 0} (ready : S → List ℕ) (next : S → ℕ → S) where
       let there_new : slice_get new place ≡ Some n =
       subst (λ (x : List (Node S)). slice_get x place ≡ Some n) (sym grows.items) (get_left old grows.more place n there) in
       same_Some n m (sym there_new ∙ slice_get_read new _ place m refl (slice_get_within new place n there_new) read)
+
+  -- the state at the place, and who can go there
+  pub ready_there : (nodes : List (Node S)) (place : ℕ) (pids : List ℕ) → place < length nodes → IfSome (slice_get nodes place) (λ n. pids ≡ ready n.at)
+      → (n : Node S) × (slice_get nodes place ≡ Some n) × (pids ≡ ready n.at)
+  ready_there nodes place pids within are =
+      let (n, there) = there_is nodes place within in
+      (n, there, subst (λ (found : Option (Node S)). IfSome found (λ m. pids ≡ ready m.at)) there are)

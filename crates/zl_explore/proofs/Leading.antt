@@ -1,14 +1,10 @@
 -- The turns that lead to a state that was met, read back from it to the first.
-use Rattle.std.proofs.Common.{◌≡◌, ◌<◌, ◌∙◌, ℕ, zero, suc, List, [], ◌∷◌, length, refl, sym, subst, arith, IfSome, Option, Some, slice_get}
+use Rattle.std.proofs.Common.{◌≡◌, ◌<◌, ◌∙◌, ℕ, List, [], ◌∷◌, length, refl, sym, subst, IfSome, Option, Some, slice_get}
 use Rattle.std.proofs.lemmas.Option.{same_Some}
 use Rattle.zl_explore.specs.Nodes.{IsTree, LeadsTo}
 use Rattle.zl_explore.specs.Paths.{IsPath, after}
 use Rattle.zl_explore.specs.declared.search.Node.{Node}
-
-pub there_is : {X : Type 0} (xs : List X) (i : ℕ) → i < length xs → (x : X) × (slice_get xs i ≡ Some x)
-there_is [] i within = absurd (omega (arith, within))
-there_is (x ∷ xs) zero within = (x, refl)
-there_is (x ∷ xs) (suc i) within = there_is xs i (omega (arith, within))
+use Rattle.zl_explore.proofs.Lists.{there_is}
 
 module _ {S : Type 0} (ready : S → List ℕ) (next : S → ℕ → S) (nodes : List (Node S)) where
   -- no turn leads from a state to itself

@@ -1,20 +1,20 @@
 -- What a process computed with that is over counts for no step.
-use Rattle.zl_code.proofs.Common.{Bool, Library, None, Option, Process, Ready, Some, State, World, ap, arith, cases_Bool, each, false}
-use Rattle.zl_code.proofs.Common.{false≢true, get, get-each, if◌then◌else◌, inl, inr, is_process, is_ready, is_some, lives, ne_eqb, next_for}
-use Rattle.zl_code.proofs.Common.{none-some, option_map, refl, same_Some, state_passes, subst, sym, true, ℕ, ◌<◌, ◌∙◌, ◌≡◌}
+use Rattle.zl_code.proofs.Common.{Library, None, Option, Process, Some, State, World, ap, arith, cases_Bool, each, false, false≢true, get, get-each}
+use Rattle.zl_code.proofs.Common.{if◌then◌else◌, inl, inr, is_process, is_some, lives, next_for, option_map, refl, same_Some, state_passes, subst, sym}
+use Rattle.zl_code.proofs.Common.{true, ℕ, ◌<◌, ◌∙◌, ◌≡◌}
 use Rattle.zl_rights.specs.World.{Blocked, Cpu, Created}
 use Rattle.std.specs.Bool.{passes}
 use Rattle.zl_rights.proofs.Canonical.{same_map}
 use Rattle.zl_code.specs.declared.history.TraceItem.{TraceItem}
 use Rattle.zl_code.specs.Own.{OwnWorld}
-use Rattle.zl_code.specs.OwnSteps.{own_act, own_behind, own_of, own_step}
+use Rattle.zl_code.specs.OwnSteps.{own_act, own_step}
 use Rattle.zl_code.proofs.MapKept.{in_order-each}
-use Rattle.zl_explore.specs.Cpus.{Cpus, with_cpu, with_cpus, own_with, may_be_woken, Spares}
-use Rattle.zl_calls.specs.Rested.{no_cpu, rested_process, rested, own_rested}
+use Rattle.zl_explore.specs.Cpus.{Cpus, Spares, may_be_woken, own_with, with_cpu, with_cpus}
+use Rattle.zl_calls.specs.Rested.{no_cpu, own_rested, rested, rested_process}
 use Rattle.zl_explore.specs.Ordered.{IsOrdered}
 use Rattle.zl_explore.proofs.Ordered.{ordered_act, ordered_ending}
-use Rattle.zl_explore.proofs.BesideSteps.{own_step_beside, is_ready_Ready}
-use Rattle.zl_explore.proofs.Over.{over_stays}
+use Rattle.zl_explore.proofs.BesideSteps.{own_step_beside}
+use Rattle.zl_explore.proofs.Standing.{StepsFrom, over_stays, steps_from}
 
 -- ---- the Cpus of those that are over
 
@@ -99,30 +99,11 @@ module _ (w w2 : World) (ordered : IsOrdered w2) (stays : (k : ℕ) (x : Process
           ∙ (ap (option_map rested_process) (get-each w2.processes (λ j q. with_cpu (cpus_over w j) q) k)
           ∙ (cpu_gone k (get w.processes k) (get w2.processes k) refl refl ∙ sym (get-each w2.processes (λ j q. rested_process q) k)))
 
--- the own step was that of a ready process
-record StepsFrom (lib : Library) (o : OwnWorld) (p : ℕ) (after : OwnWorld) (x : TraceItem) : Type 0 where
-  process : Process
-  there : get o.world.processes p ≡ Some process
-  ready : process.state ≡ Ready
-  is : (after, x) ≡ own_behind (own_act lib o p (next_for lib process))
-
-steps_from : (lib : Library) (o : OwnWorld) (p : ℕ) (after : OwnWorld) (x : TraceItem) → own_step lib o p ≡ Some (after, x) → StepsFrom lib o p after x
-steps_from lib o p after x step = by_found (get o.world.processes p) refl step
-  where
-    by_found : (found : Option Process) → get o.world.processes p ≡ found → own_of lib o p found ≡ Some (after, x) → StepsFrom lib o p after x
-    by_found None there step = absurd (none-some _ step)
-    by_found (Some q) there step = by_test (is_ready q.state) refl step
-      where
-        by_test : (b : Bool) → is_ready q.state ≡ b → (if b then Some (own_behind (own_act lib o p (next_for lib q))) else None) ≡ Some (after, x)
-            → StepsFrom lib o p after x
-        by_test false unready step = absurd (none-some _ step)
-        by_test true ready step = record { process = q; there = there; ready = is_ready_Ready q.state ready; is = sym (same_Some _ _ step) }
-
 pub ordered_behind : (lib : Library) (o after : OwnWorld) (p : ℕ) (x : TraceItem) → IsOrdered o.world → own_step lib o p ≡ Some (after, x)
     → IsOrdered after.world
 ordered_behind lib o after p x ordered step =
-    let from = steps_from lib o p after x step in
-    subst (λ (y : OwnWorld × TraceItem). IsOrdered y.0.world) (sym from.is)
+    let from = steps_from lib o after p x step in
+    subst (λ (y : OwnWorld × TraceItem). IsOrdered y.0.world) from.is
     (ordered_ending (own_act lib o p (next_for lib from.process)).world (ordered_act lib o p ordered (next_for lib from.process)))
 
 -- the rested world does the same step, and where that leads, rested, is where it led
@@ -137,14 +118,10 @@ rested_steps lib o after p x ordered step = (
 )
   where
     from : StepsFrom lib o p after x
-    from = steps_from lib o p after x step
+    from = steps_from lib o after p x step
 
     spared : cpus_over o.world p ≡ None
     spared = ap cpu_over from.there ∙ living_none (Some from.process) (ap lives from.ready)
 
     stays : (k : ℕ) (y : Process) → get o.world.processes k ≡ Some y → lives y.state ≡ false → get after.world.processes k ≡ Some y
-    stays k y there over =
-        let below : k < o.world.next_koid = ordered.below k (ap is_some there) in
-        (λ i. get (from.is i).0.world.processes k)
-        ∙ over_stays k y over lib o p from.process from.there from.ready (ne_eqb o.world.next_koid k (λ e. omega (arith, e, below))) there
-        (next_for lib from.process)
+    stays k y there over = over_stays k y over lib o after p x ordered there step

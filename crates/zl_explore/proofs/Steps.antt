@@ -3,14 +3,13 @@ use Rattle.zl_code.proofs.Common.{Library, None, Option, Process, Some, ap, fals
 use Rattle.zl_code.specs.declared.history.TraceItem.{TraceItem}
 use Rattle.zl_code.specs.Own.{OwnWorld}
 use Rattle.zl_code.specs.OwnSteps.{own_of, own_step}
-use Rattle.zl_code.specs.Sound.{IsSound}
 use Rattle.zl_calls.specs.World.{Machine, own_here}
+use Rattle.zl_explore.specs.Ordered.{IsOrdered}
 use Rattle.zl_explore.specs.Orders.{behind}
 use Rattle.zl_explore.specs.Running.{rested_machine, turned, with_own}
-use Rattle.zl_explore.proofs.Machines.{ordered}
 use Rattle.zl_explore.proofs.Turns.{next_is, process_rested}
 
-no_step : (lib : Library) (o : OwnWorld) (p : ℕ) → is_process o.world is_ready p ≡ false → own_step lib o p ≡ None
+pub no_step : (lib : Library) (o : OwnWorld) (p : ℕ) → is_process o.world is_ready p ≡ false → own_step lib o p ≡ None
 unfolding is_process
 no_step lib o p unready = by_found (get o.world.processes p) unready
   where
@@ -25,8 +24,8 @@ no_turn m p unready =
     (no_step m.programs (own_here (rested_machine m)) p (process_rested m.world is_ready p ∙ unready))
 
 -- and each other its own step
-pub one_turn : (m m2 : Machine) (p : ℕ) (x : TraceItem) → IsSound m.world → m2.programs ≡ m.programs
+pub one_turn : (m m2 : Machine) (p : ℕ) (x : TraceItem) → IsOrdered m.world → m2.programs ≡ m.programs
     → own_step m.programs (own_here m) p ≡ Some (own_here m2, x) → turned (rested_machine m) p ≡ rested_machine m2
-one_turn m m2 p x sound programs step =
-    ap (with_own (rested_machine m)) (next_is m.programs (own_here m) (own_here m2) p x (ordered m sound) step)
+one_turn m m2 p x ordered programs step =
+    ap (with_own (rested_machine m)) (next_is m.programs (own_here m) (own_here m2) p x ordered step)
     ∙ λ i. record (rested_machine m2) { programs = sym programs i }

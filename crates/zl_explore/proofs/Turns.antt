@@ -4,14 +4,16 @@ use Rattle.zl_code.proofs.Common.{eqb-true, false≢true, filter, get, get-each,
 use Rattle.zl_code.proofs.Common.{none-some, option_map, refl, same_Some, state_passes, subst, suc, sym, true, zero, ℕ, ◌==◌}
 use Rattle.zl_code.proofs.Common.{◌∙◌, ◌∷◌, ◌≡◌}
 use Rattle.zl_code.proofs.Common.{has_key}
+use Rattle.zl_code.specs.declared.history.ProcState.{ProcState}
 use Rattle.zl_code.specs.declared.history.TraceItem.{TraceItem}
 use Rattle.zl_code.specs.Own.{OwnWorld}
 use Rattle.zl_code.specs.OwnSteps.{own_of, own_step}
 use Rattle.zl_code.proofs.OwnSteps.{own_step_there}
 use Rattle.zl_explore.specs.Ordered.{IsOrdered}
-use Rattle.zl_explore.specs.Orders.{OwnTurns, behind, next_in, ready_in, states_in}
+use Rattle.zl_explore.specs.Orders.{OwnTurns, behind, next_in, ready_in, told_in}
 use Rattle.zl_explore.specs.Paths.{IsIn, IsPath, after}
 use Rattle.zl_calls.specs.Rested.{own_rested, rested, rested_process}
+use Rattle.zl_calls.specs.World.{seen_in}
 use Rattle.zl_explore.proofs.Resting.{rested_steps, ordered_behind}
 
 -- ---- who is ready
@@ -65,17 +67,18 @@ process_rested w test k = rw get-each (by_found (get w.processes k))
 pub ready_same : (o : OwnWorld) → ready_in (own_rested o) ≡ ready_in o
 ready_same o = λ i. filter (λ k. process_rested o.world is_ready k i) (keys_rested o.world.processes i)
 
-states_rested : (m : Map Process) → map {B = ℕ × State} (λ e. (e.0, e.1.state)) (each (λ k q. rested_process q) m) ≡ map (λ e. (e.0, e.1.state)) m
+told_rested : (m : Map Process) → map {B = ℕ × ProcState} (λ e. (e.0, seen_in e.1.state)) (each (λ k q. rested_process q) m)
+    ≡ map (λ e. (e.0, seen_in e.1.state)) m
 unfolding each
-states_rested [] = refl
-states_rested (e ∷ m) = ap (λ ks. (e.0, e.1.state) ∷ ks) (states_rested m)
+told_rested [] = refl
+told_rested (e ∷ m) = ap (λ ks. (e.0, seen_in e.1.state) ∷ ks) (told_rested m)
 
-pub states_same : (o : OwnWorld) → states_in (own_rested o) ≡ states_in o
-states_same o = states_rested o.world.processes
+pub told_same : (o : OwnWorld) → told_in (own_rested o) ≡ told_in o
+told_same o = told_rested o.world.processes
 
 -- ---- one turn
 
-steps_ready : (lib : Library) (o after : OwnWorld) (p : ℕ) (x : TraceItem) → own_step lib o p ≡ Some (after, x) → IsIn (ready_in o) p
+pub steps_ready : (lib : Library) (o after : OwnWorld) (p : ℕ) (x : TraceItem) → own_step lib o p ≡ Some (after, x) → IsIn (ready_in o) p
 unfolding is_process
 steps_ready lib o after p x step = by_found (get o.world.processes p) refl step
   where

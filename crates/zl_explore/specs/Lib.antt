@@ -5,3 +5,9 @@ pub mod Running
 pub mod Paths
 pub mod Nodes
 pub mod Reduced
+pub mod GoesAhead
+pub mod Private
+pub mod GoingAhead
+pub mod Searching
+pub mod Telling
+pub mod Kept

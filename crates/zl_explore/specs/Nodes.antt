@@ -3,6 +3,10 @@ use Rattle.std.specs.Prelude.{ℕ, ◌≡◌, ◌<◌, List, ◌++◌, Some, sli
 use Rattle.zl_explore.specs.Paths.{IsIn, IsPath, after}
 use Rattle.zl_explore.specs.declared.search.Node.{Node}
 
+-- the one list begins the other
+abbrev pub Extends : {X : Type 0} → (old new : List X) → Type 0
+Extends {X} old new = (more : List X) × (new ≡ old ++ more)
+
 module _ {S : Type 0} (ready : S → List ℕ) (next : S → ℕ → S) where
   -- the state was met
   pub record IsMet (nodes : List (Node S)) (s : S) : Type 0 where

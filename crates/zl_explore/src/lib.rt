@@ -1,16 +1,19 @@
 //! All orders of the turns of a running world: where they come to an end.
 //!
-//! It stands on `zl_calls`, for the world and its steps. It promises that each world that it tells of is
-//! reached by the lab's own steps, and that, where it says that it met all, every order of turns that
+//! It stands on `zl_calls`, for the world and its steps, on `zl_interp`, for local instructions in a row,
+//! and on `zl_code` and `zl_rights`. It promises that the lab's own steps lead to each end that it tells, by
+//! the turns that come with it, and that, where it says that it told all, every order of own steps that
 //! comes to an end comes to one of them.
 #![tactic(auto)]
 
+mod ahead;
+mod ends;
+mod kept;
 mod machine;
 mod orders;
+mod places;
 mod running;
 mod search;
 
-pub use machine::Machine;
-pub use orders::all_turns;
-pub use running::Running;
-pub use search::{Explored, Node, all_orders, explore, turns_to};
+pub use ends::{End, Next};
+pub use orders::Search;

@@ -21,11 +21,15 @@ pub trait Machine: Drop {
     fn copy(&self) -> Result<Self, AllocError>
         ensures { IfOk result (λ other. other ≡ self.now) };
 
-    /// A turn of the process.
-    fn turn(&mut self, pid: Pid) -> Result<(), AllocError>
-        ensures { IfOk result (λ _. self.new ≡ next self.old pid) };
+    /// The machine behind a turn of the process.
+    fn turn(self, pid: Pid) -> Result<Self, AllocError>
+        ensures { IfOk result (λ behind. behind ≡ next self pid) };
 
     /// Whether the other is the same. It may say no of the same, at the cost of time.
     fn is_same(&self, other: &Self) -> bool
         ensures { IsTrue result → self.now ≡ other.now };
+
+    /// A number by which machines that are the same are found. Where it differs for the same, they are
+    /// told apart, at the cost of time.
+    fn digest(&self) -> u64;
 }

@@ -1,32 +1,80 @@
 //! All orders of turns of a running world.
 
-ghost use Rattle.std.specs.Prelude.{ℕ, ◌≡◌, [], List, IfOk, IsTrue, Some, slice_get};
-ghost use Rattle.zl_code.specs.Own.{OwnWorld};
-ghost use Rattle.zl_calls.specs.World.{Machine as MachineValue, own_here};
-ghost use Rattle.zl_explore.specs.Orders.{OwnTurns, ready_in, states_in};
-ghost use Rattle.zl_explore.specs.Running.{HasEnd, Reaches};
-ghost use Rattle.zl_explore.specs.declared.search.Node.{Node as NodeValue};
+ghost use Rattle.std.specs.Prelude.{◌≡◌, [], IfOk, Some};
+ghost use Rattle.zl_calls.specs.World.{own_here};
+ghost use Rattle.zl_explore.specs.Private.{IsStill};
+ghost use Rattle.zl_explore.specs.Searching.{BeganWith};
+ghost use Rattle.zl_explore.specs.Telling.{Leads, Lessens, Tells, TellsAll};
 
-use crate::running::Running;
-use crate::search::{Explored, all_orders};
+use crate::ends::Next;
+use crate::kept::Kept;
 use std::alloc::{AllocError, Global};
+use std::marker::Model;
 use zl_calls::World;
 
-/// Takes all turns from the world on, until there is nothing new, or there would be more than so many
-/// worlds.
+/// A search over all orders of the turns of a running world: to which states they come where nobody is
+/// ready. It goes up to the next call at each turn, since nobody else can tell when a process does its
+/// local instructions.
 ///
-/// Each world that was met is reached by the lab's own steps. Where all were met, each order of turns, of
-/// any length, that comes to an end, as nobody is ready, comes to one of them. Only memory can be
-/// refused, as in a call that is answered so.
 /// Source: own profile.
-pub fn all_turns(alloc: Global, world: World, most: usize) -> Result<Explored<Running>, AllocError>
-    ensures reached { IfOk result (λ e. (i : ℕ) (n : NodeValue MachineValue)
-        → slice_get e.nodes.items i ≡ Some n → Reaches world n.at) }
-    ensures ends { IfOk result (λ e. IsTrue e.all → (turns : List ℕ) (o : OwnWorld)
-        → OwnTurns world.programs (own_here world) turns o → ready_in o ≡ []
-        → HasEnd e.nodes.items (states_in o)) }
-{
-    world.soundness();
-    let explored = all_orders(alloc, Running::new(alloc, world), most)?;
-    Ok(explored)
+#[derive(Drop)]
+pub struct Search {
+    kept: Kept,
+}
+
+impl Model for Search {
+    ghost use Rattle.zl_explore.specs.Searching.{Search as SearchValue};
+    ghost use Rattle.zl_explore.specs.Kept.{IsWhole, search_of};
+
+    ghost Value = { SearchValue };
+
+    ghost view = { λ s. search_of s.kept };
+
+    ghost invariant = { λ s. IsWhole s.kept };
+}
+
+impl Search {
+    /// A search that begins with the world, and meets no more worlds than so many, of which 0 counts as 1.
+    /// The world has to be as boots and own steps leave one. Only memory can be refused.
+    pub fn new(alloc: Global, world: World, most: usize) -> Result<Search, AllocError>
+        requires { IsStill (own_here world) }
+        ensures root { IfOk result (BeganWith world) }
+        ensures told { IfOk result (λ search. search.told ≡ []) }
+        ensures left { IfOk result (λ search. search.left ≡ most) }
+    {
+        Ok(Search {
+            kept: Kept::new(alloc, world, most)?,
+        })
+    }
+
+    /// Goes on to the next end with other states than those of all ends that were told.
+    ///
+    /// An end comes with turns by which the lab's own steps lead to it from the world where the search
+    /// began. `All` comes only where every order of turns, of any length, that comes to a world in which
+    /// nobody is ready comes to the states of an end that was told. Behind an end there is less to go on
+    /// from, so that the search ends.
+    pub fn next_end(&mut self) -> Next
+        ensures root { self.new.root ≡ self.old.root }
+        ensures told { Tells (Some result) self.old.told self.new.told }
+        ensures leads { Leads (Some result) self.old }
+        ensures left { Lessens result self.old.left self.new.left }
+        ensures all { TellsAll result self.new }
+    {
+        self.kept.next_end()
+    }
+
+    /// How many worlds were met.
+    pub fn worlds(&self) -> usize {
+        self.kept.nodes.len()
+    }
+
+    /// How many turns were taken.
+    pub fn turns(&self) -> u64 {
+        self.kept.course.turns
+    }
+
+    /// How many ends were told.
+    pub fn ends(&self) -> usize {
+        self.kept.told.len()
+    }
 }

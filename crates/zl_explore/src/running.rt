@@ -1,11 +1,15 @@
-//! A running world as a machine, whose turns are the lab's own steps.
+//! A running world as a machine, whose turns are the lab's own steps up to the next call.
 
 ghost use Rattle.std.specs.Prelude.{◌≡◌, ◌++◌, IfOk, OnOk};
 ghost use Rattle.zl_code.specs.OwnHistory.{tells_want};
 ghost use Rattle.zl_calls.specs.World.{is_ready_in, own_here};
-ghost use Rattle.zl_explore.specs.Orders.{one_if, ready_in};
-ghost use Rattle.zl_explore.specs.Running.{ready_of, rested_machine, turned};
+ghost use Rattle.zl_explore.specs.Orders.{one_if, ready_in, told_in};
+ghost use Rattle.zl_explore.specs.GoingAhead.{Takes, reduced, start_of};
+ghost use Rattle.zl_explore.specs.Private.{IsStill};
+ghost use Rattle.zl_explore.specs.Running.{ready_of, rested_machine};
 
+use crate::ahead::{begin, take_turn};
+use crate::ends::{mixed, number_of, states_of};
 use crate::machine::Machine;
 use std::alloc::{AllocError, Global};
 use std::marker::Model;
@@ -20,27 +24,59 @@ pub struct Running {
 }
 
 impl Model for Running {
-    ghost use Rattle.zl_calls.specs.World.{Machine as MachineValue};
+    ghost use Rattle.zl_calls.specs.World.{Machine as MachineValue, own_here};
+    ghost use Rattle.zl_explore.specs.Private.{IsStill};
     ghost use Rattle.zl_explore.specs.Running.{rested_machine};
 
     ghost Value = { MachineValue };
 
     ghost view = { λ r. rested_machine r.world };
+
+    ghost invariant = { λ r. IsStill (own_here r.world) };
 }
 
 impl Running {
-    /// The world as a machine.
+    /// The world as a machine. It has to be as own steps and boots leave one.
     pub fn new(alloc: Global, world: World) -> Running
+        requires { IsStill (own_here world) }
         ensures { result ≡ rested_machine world }
     {
         Running { alloc, world }
+    }
+
+    /// What each process is in, by koid. Only memory can be refused.
+    pub fn states(&self) -> Result<Vec<(Pid, ProcState)>, AllocError>
+        ensures { IfOk result (λ states. states.items ≡ told_in (own_here self.now)) }
+    {
+        states_of(self.alloc, &self.world)
+    }
+
+    /// The machine behind a turn of the process, up to the next call. Whose instructions these are comes
+    /// behind the others that are given.
+    pub fn take_turn(self, pid: Pid, taken: &mut Vec<Pid>) -> Result<Running, AllocError>
+        ensures next { IfOk result (λ behind. behind ≡ reduced self pid) }
+        ensures taken { IfOk result (Takes self taken.old.items taken.new.items) }
+    {
+        let Running { alloc, mut world } = self;
+        take_turn(alloc, &mut world, pid, taken)?;
+        Ok(Running { alloc, world })
+    }
+
+    /// The machine where all who are ready went ahead up to the next call.
+    pub fn begin(self, taken: &mut Vec<Pid>) -> Result<Running, AllocError>
+        ensures next { IfOk result (λ behind. behind ≡ start_of self) }
+        ensures taken { IfOk result (Takes self taken.old.items taken.new.items) }
+    {
+        let Running { alloc, mut world } = self;
+        begin(alloc, &mut world, taken)?;
+        Ok(Running { alloc, world })
     }
 }
 
 impl Machine for Running {
     ghost ready = { ready_of };
 
-    ghost next = { turned };
+    ghost next = { reduced };
 
     fn ready(&self) -> Result<Vec<Pid>, AllocError> {
         ready_pids(self.alloc, &self.world)
@@ -53,16 +89,9 @@ impl Machine for Running {
         })
     }
 
-    fn turn(&mut self, pid: Pid) -> Result<(), AllocError> {
-        self.world.soundness();
-        let Some((item, told)) = self.world.step(pid) else {
-            return Ok(());
-        };
-        self.world.put_back(told);
-        if wants_memory(&item) {
-            return Err(AllocError);
-        }
-        Ok(())
+    fn turn(self, pid: Pid) -> Result<Running, AllocError> {
+        let mut taken = Vec::new(self.alloc);
+        self.take_turn(pid, &mut taken)
     }
 
     fn is_same(&self, other: &Running) -> bool {
@@ -71,10 +100,38 @@ impl Machine for Running {
         }
         self.world.programs().is_same(other.world.programs())
     }
+
+    fn digest(&self) -> u64 {
+        let mut digest = 0;
+        for n in 0..self.world.process_count() {
+            let Some(pid) = self.world.process_at(n) else {
+                unreachable!()
+            };
+            digest = with_process(digest, &self.world, pid);
+        }
+        digest
+    }
+}
+
+/// The digest with what a process is in, and with what it computes with if it isn't over.
+fn with_process(digest: u64, world: &World, pid: Pid) -> u64 {
+    let state = world.state_of(pid);
+    let mut digest = mixed(digest, number_of(state));
+    if matches!(state, ProcState::Ended(_) | ProcState::Gone) {
+        return digest;
+    }
+    let Some(cpu) = world.cpu_of(pid) else {
+        return digest;
+    };
+    digest = mixed(digest, cpu.counter() as u64);
+    for register in cpu.registers() {
+        digest = mixed(digest, *register);
+    }
+    digest
 }
 
 /// The processes that are ready, by koid.
-fn ready_pids(alloc: Global, world: &World) -> Result<Vec<Pid>, AllocError>
+pub fn ready_pids(alloc: Global, world: &World) -> Result<Vec<Pid>, AllocError>
     ensures { IfOk result (λ pids. pids.items ≡ ready_in (own_here world.now)) }
 {
     let mut ready = Vec::new(alloc);
@@ -88,14 +145,14 @@ fn ready_pids(alloc: Global, world: &World) -> Result<Vec<Pid>, AllocError>
 }
 
 /// Whether the process is there and ready.
-fn is_ready(world: &World, pid: Pid) -> bool
+pub fn is_ready(world: &World, pid: Pid) -> bool
     ensures { result ≡ is_ready_in world.now pid }
 {
     matches!(world.state_of(pid), ProcState::Ready)
 }
 
 /// The process comes behind the others, if it is so.
-fn push_if(ready: &mut Vec<Pid>, is_so: bool, pid: Pid) -> Result<(), AllocError>
+pub fn push_if(ready: &mut Vec<Pid>, is_so: bool, pid: Pid) -> Result<(), AllocError>
     ensures { OnOk result (ready.new.items ≡ ready.old.items ++ one_if is_so pid) }
 {
     if is_so {
@@ -105,7 +162,7 @@ fn push_if(ready: &mut Vec<Pid>, is_so: bool, pid: Pid) -> Result<(), AllocError
 }
 
 /// Whether the item tells of a call that wanted memory.
-fn wants_memory(item: &TraceItem) -> bool
+pub fn wants_memory(item: &TraceItem) -> bool
     ensures { result ≡ tells_want item.now }
 {
     match item {

@@ -1,11 +1,10 @@
-//! The search.
+//! The search, of any machine.
 
-ghost use Rattle.std.specs.Prelude.{ℕ, ◌≡◌, ◌<◌, ◌≤◌, ◌+◌, IfOk, IfSome, IsTrue, slice_get, Some, List, length};
-ghost use Rattle.zl_explore.specs.Paths.{EndsAt, IsReached};
-ghost use Rattle.zl_explore.specs.declared.search.Node.{Node};
-ghost use Rattle.zl_explore.specs.Nodes.{AreWidened, IsMet, IsTree, IsWidened, LeadsTo};
+ghost use Rattle.std.specs.Prelude.{ℕ, ◌≡◌, ◌<◌, ◌+◌, IfOk, IfSome, IsTrue, slice_get, length};
+ghost use Rattle.zl_explore.specs.Nodes.{AreWidened, Extends, IsMet, IsTree, LeadsTo};
 
 use crate::machine::Machine;
+use crate::places::Places;
 use std::alloc::{AllocError, Global};
 use zl_rights::Pid;
 
@@ -18,46 +17,61 @@ pub struct Node<M> {
     pub by: Pid,
 }
 
-/// What was met, and whether that is all.
+/// What a search keeps beside the states.
 #[derive(Drop)]
-pub struct Explored<M> {
-    pub nodes: Vec<Node<M>>,
-    pub all: bool,
+pub struct Course {
+    /// Where states stand, by their digests.
+    pub places: Places,
+    /// How many turns were taken.
+    pub turns: u64,
 }
 
 /// Whether the state is one of those.
-fn is_met<M: Machine>(nodes: &[Node<M>], at: &M) -> bool
+fn is_met<M: Machine>(nodes: &[Node<M>], places: &Places, at: &M, digest: u64) -> bool
     ensures { IsTrue result → IsMet M.ready M.next nodes.now at.now }
 {
-    for node in nodes {
+    let mut next = places.last(digest);
+    for _ in 0..nodes.len() {
+        let Some(place) = next else {
+            return false;
+        };
+        let Some(node) = nodes.get(place) else {
+            return false;
+        };
         if node.at.is_same(at) {
             return true;
         }
+        next = places.before(place);
     }
     false
 }
 
-/// Takes all turns from the state at the place. False where there would be more than so many states.
-fn widen<M: Machine>(
+/// Takes a turn of each of those who can go in the state at the place, which are given. False where there
+/// would be more than so many states.
+pub fn widen<M: Machine>(
     nodes: &mut Vec<Node<M>>,
+    course: &mut Course,
     place: usize,
+    pids: &[Pid],
     most: usize,
 ) -> Result<bool, AllocError>
-    requires { place < length nodes.old.items }
-    ensures tree { IfOk result (λ _. (start : M) → IsTree M.ready M.next start nodes.old.items
-        → IsTree M.ready M.next start nodes.new.items) }
+    requires within { place < length nodes.old.items }
+    requires ready { IfSome (slice_get nodes.old.items place) (λ n. pids.now ≡ M.ready n.at) }
+    ensures tree { (start : M) → IsTree M.ready M.next start nodes.old.items
+        → IsTree M.ready M.next start nodes.new.items }
+    ensures extends { Extends nodes.old.items nodes.new.items }
     ensures widened { IfOk result (λ all. IsTrue all → AreWidened M.ready M.next nodes.old.items place
         → AreWidened M.ready M.next nodes.new.items (place + 1)) }
-    ensures longer { IfOk result (λ _. length nodes.old.items ≤ length nodes.new.items) }
 {
-    let pids = nodes[place].at.ready()?;
-    for pid in &pids {
-        let mut at = nodes[place].at.copy()?;
-        at.turn(*pid)?;
-        if !is_met(nodes, &at) {
+    for pid in pids {
+        let at = nodes[place].at.copy()?.turn(*pid)?;
+        course.turns = course.turns.saturating_add(1);
+        let digest = at.digest();
+        if !is_met(nodes, &course.places, &at, digest) {
             if nodes.len() >= most {
                 return Ok(false);
             }
+            course.places.push(digest)?;
             nodes.push(Node {
                 at,
                 from: place,
@@ -66,49 +80,6 @@ fn widen<M: Machine>(
         }
     }
     Ok(true)
-}
-
-/// Takes all turns from the start on, until there is nothing new or there would be more than so many
-/// states.
-pub fn explore<M: Machine>(alloc: Global, start: M, most: usize) -> Result<Explored<M>, AllocError>
-    ensures tree { IfOk result (λ e. IsTree M.ready M.next start e.nodes.items) }
-    ensures all { IfOk result (λ e. IsTrue e.all
-        → AreWidened M.ready M.next e.nodes.items (length e.nodes.items)) }
-{
-    let mut nodes = Vec::new(alloc);
-    nodes.push(Node {
-        at: start,
-        from: 0,
-        by: 0,
-    })?;
-    for place in 0..most {
-        if place >= nodes.len() {
-            return Ok(Explored { nodes, all: true });
-        }
-        if !widen(&mut nodes, place, most)? {
-            return Ok(Explored { nodes, all: false });
-        }
-    }
-    if nodes.len() > most {
-        return Ok(Explored { nodes, all: false });
-    }
-    Ok(Explored { nodes, all: true })
-}
-
-/// All that was asked: each state that was met is reached by turns, and, where all were met, each end
-/// of each order of turns is among them.
-pub fn all_orders<M: Machine>(
-    alloc: Global,
-    start: M,
-    most: usize,
-) -> Result<Explored<M>, AllocError>
-    ensures reached { IfOk result (λ e. (i : ℕ) (n : Node M) → slice_get e.nodes.items i ≡ Some n
-        → IsReached M.ready M.next start n.at) }
-    ensures ends { IfOk result (λ e. IsTrue e.all → (turns : List ℕ) (last : M)
-        → EndsAt M.ready M.next start turns last → IsMet M.ready M.next e.nodes.items last) }
-{
-    let explored = explore(alloc, start, most)?;
-    Ok(explored)
 }
 
 /// The turns that lead from the first state to the one at the place, in their order. The states are

@@ -1,12 +1,16 @@
 //! All orders of the turns of a running world: how many worlds they lead to, and where they end; and
 //! copies of a world, which go on as it does.
 
+ghost use Rattle.std.specs.Prelude.{IfOk};
+ghost use Rattle.zl_calls.specs.World.{own_here};
+ghost use Rattle.zl_explore.specs.Private.{IsStill};
+
 use std::alloc::Global;
 use std::test::*;
 use zl_asm::assemble_bytes;
 use zl_calls::World;
-use zl_code::{Boot, Grant, Grants, Statement};
-use zl_explore::{Explored, Machine, Running, all_turns};
+use zl_code::{Boot, Grant, Grants, ProcState, Statement};
+use zl_explore::{Next, Search};
 use zl_interp::{Library, Program};
 use zl_rights::{Koid, Pid};
 
@@ -59,7 +63,9 @@ fn grants(alloc: Global, wants_events: bool) -> Result<Grants, Fail> {
 }
 
 /// A world with one that takes packets, the process 4, and two that queue them.
-fn world(alloc: Global) -> Result<World, Fail> {
+fn world(alloc: Global) -> Result<World, Fail>
+    ensures { IfOk result (λ world. IsStill (own_here world)) }
+{
     let mut library = Library::new(alloc);
     for text in [TAKES, QUEUES] {
         let image = assemble_bytes(alloc, text.as_bytes())
@@ -90,34 +96,64 @@ fn world(alloc: Global) -> Result<World, Fail> {
     }
 }
 
-/// How many turns there are from the worlds that were met, and how many of these are ends.
-fn turns_and_ends(explored: &Explored<Running>) -> Result<(usize, usize), Fail> {
-    let mut turns: usize = 0;
+/// Goes on to the last end: how many ends there are, and whether these are all.
+fn ends_of(search: &mut Search) -> (usize, bool) {
     let mut ends: usize = 0;
-    for node in &explored.nodes {
-        let ready = node.at.ready()?;
-        turns = turns.saturating_add(ready.len());
-        ends = ends.saturating_add(usize::from(ready.is_empty()));
+    for _ in 0..1_000 {
+        match search.next_end() {
+            Next::End(_) => ends = ends.saturating_add(1),
+            Next::All => return (ends, true),
+            Next::Cut | Next::Memory => return (ends, false),
+        }
     }
-    Ok((turns, ends))
+    (ends, false)
 }
 
 #[test]
 fn freed_values_tell_worlds_apart(rt: HostRuntime) -> Result<(), Fail> {
-    let explored = all_turns(rt.alloc(), world(rt.alloc())?, 1_000)?;
-    assert!(rt; explored.all);
-    assert_eq!(rt; explored.nodes.len(), 146);
-    assert_eq!(rt; turns_and_ends(&explored)?, (291, 2));
+    let mut search = Search::new(rt.alloc(), world(rt.alloc())?, 1_000)?;
+    assert_eq!(rt; ends_of(&mut search), (2, true));
+    assert_eq!(rt; search.worlds(), 98);
+    assert_eq!(rt; search.turns(), 193);
     Ok(())
 }
 
 #[test]
+fn an_end_has_the_states_and_turns_that_lead_there(rt: HostRuntime) -> Result<(), Fail> {
+    let mut search = Search::new(rt.alloc(), world(rt.alloc())?, 1_000)?;
+    for _ in 0..2 {
+        let Next::End(end) = search.next_end() else {
+            return Err(Fail::from("there are two ends"));
+        };
+        let mut world = world(rt.alloc())?;
+        for pid in &end.turns {
+            assert!(rt; step(&mut world, *pid));
+        }
+        assert_eq!(rt; end.states.len(), 3);
+        for (pid, state) in &end.states {
+            assert!(rt; matches!(state, ProcState::Ended(_)));
+            assert_eq!(rt; code_of(*state), code_of(world.state_of(*pid)));
+        }
+    }
+    Ok(())
+}
+
+/// The code with which it ended.
+fn code_of(state: ProcState) -> Option<i32> {
+    match state {
+        ProcState::Ended(code) => Some(code),
+        _ => None,
+    }
+}
+
+#[test]
 fn a_search_is_cut_at_one_world_more(rt: HostRuntime) -> Result<(), Fail> {
-    let all = all_turns(rt.alloc(), world(rt.alloc())?, 146)?;
-    assert!(rt; all.all);
-    let cut = all_turns(rt.alloc(), world(rt.alloc())?, 145)?;
-    assert!(rt; !cut.all);
-    assert_eq!(rt; cut.nodes.len(), 145);
+    let mut all = Search::new(rt.alloc(), world(rt.alloc())?, 98)?;
+    assert_eq!(rt; ends_of(&mut all), (2, true));
+    let mut cut = Search::new(rt.alloc(), world(rt.alloc())?, 97)?;
+    let (_, is_all) = ends_of(&mut cut);
+    assert!(rt; !is_all);
+    assert_eq!(rt; cut.worlds(), 97);
     Ok(())
 }
 

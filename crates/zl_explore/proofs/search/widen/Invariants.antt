@@ -2,4 +2,4 @@ use Rattle.zl_explore.specs.Nodes.{Grows}
 use Rattle.zl_explore.proofs.search.widen.Given as goal
 
 abbrev pub invariant-loop-pid : goal.invariant-loop-pid
-invariant-loop-pid g l = Grows g.M.Machine.ready g.M.Machine.next l.initial.nodes.items l.place l.pid-items l.pid-index l.nodes.items
+invariant-loop-pid g l = Grows g.M.Machine.ready g.M.Machine.next l.initial.nodes.items l.place l.fn.pids l.pid-index l.nodes.items

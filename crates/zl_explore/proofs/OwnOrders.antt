@@ -1,0 +1,58 @@
+-- Orders of own turns of a still world, and the states that reduced turns meet.
+use Rattle.zl_code.proofs.Common.{Bool, Library, List, Some, [], ap, false, none-some, refl, slice_get, subst, sym, true, ℕ, ◌∙◌, ◌∷◌, ◌≡◌}
+use Rattle.zl_code.specs.declared.history.TraceItem.{TraceItem}
+use Rattle.zl_code.specs.Own.{OwnWorld}
+use Rattle.zl_code.specs.OwnHistory.{tells_run}
+use Rattle.zl_code.specs.OwnSteps.{own_step}
+use Rattle.zl_calls.specs.Rested.{own_rested}
+use Rattle.zl_calls.specs.World.{Machine, own_here}
+use Rattle.zl_explore.specs.Orders.{OwnTurns, ready_in}
+use Rattle.zl_explore.specs.Paths.{IsIn, IsPath, after}
+use Rattle.zl_explore.specs.Private.{IsLocal, IsStill, RestsStill, Tells}
+use Rattle.zl_explore.specs.Reduced.{Ahead, IsReduced}
+use Rattle.zl_explore.specs.Running.{ready_of, rested_machine, turned}
+use Rattle.zl_explore.proofs.Private.{local_turns, rested_step, rests_behind, rests_start, steps_in, tells_still}
+use Rattle.zl_explore.proofs.Reduced.{meets}
+use Rattle.zl_explore.proofs.Turns.{ready_same}
+
+-- own turns are turns of what counts, and what is true where they lead
+own_along : (lib : Library) (holds : Machine → Type 0) (o : OwnWorld)
+    → ((u : Machine) (still : IsStill o) → u.programs ≡ lib → own_here u ≡ own_rested o → holds u)
+    → (turns : List ℕ) (s : Machine) (rests : RestsStill s) → s.programs ≡ lib → OwnTurns s.programs rests.own turns o
+    → IsPath ready_of turned s turns × holds (after ready_of turned s turns)
+unfolding IsPath after
+own_along lib holds o there [] s rests programs same =
+    (tt, there s (subst IsStill (sym same) rests.still) programs (rests.is ∙ ap own_rested (sym same)))
+own_along lib holds o there (p ∷ turns) s rests programs (mid, x, step, more) =
+    let rest = own_along lib holds o there turns (turned s p) (rests_behind s rests p mid x step) programs more in
+    ((steps_in s rests p mid x step, rest.0), rest.1)
+
+-- where each reduced turn leads from what was met to what was met
+module _ (m : Machine) (still : IsStill (own_here m)) (reduced : Machine → ℕ → Machine)
+    (is_reduced : IsReduced ready_of turned RestsStill IsLocal reduced) (t : Machine) (begins : Ahead ready_of turned IsLocal (rested_machine m) t)
+    (met : Machine → Type 0) (closed : (u : Machine) (q : ℕ) → met u → IsIn (ready_of u) q → met (reduced u q)) (is_met : met t)
+    (turns : List ℕ) (o : OwnWorld) (leads : OwnTurns m.programs (own_here m) turns o) where
+  -- each order of own turns that comes to an end comes to one that was met
+  pub ends_met : ready_in o ≡ [] → (u : Machine) × met u × (own_here u ≡ own_rested o)
+  ends_met nobody =
+      let along = own_along m.programs ends o (λ u still_o programs is. (is, ap ready_in is ∙ (ready_same o ∙ nobody))) turns (rested_machine m)
+      (rests_start m still) refl leads in
+      let it = meets ready_of turned RestsStill IsLocal local_turns reduced is_reduced (rested_machine m) t (rests_start m still) begins met closed is_met
+      ends (λ u p rests is_in local here. absurd (none-some p (subst (λ (ks : List ℕ). slice_get ks is_in.0 ≡ Some p) here.1 is_in.1)))
+      turns along.0 along.1 in (it.0, it.1, it.2.0)
+    where
+      ends : Machine → Type 0
+      ends u = (own_here u ≡ own_rested o) × (ready_of u ≡ [])
+
+  -- and an item that some own turn has behind them, a turn has of a state that was met
+  pub tells_met : (passes : TraceItem → Bool) → ((x : TraceItem) → tells_run x ≡ true → passes x ≡ false) → (p : ℕ) (o2 : OwnWorld) (x : TraceItem)
+      → own_step m.programs o p ≡ Some (o2, x) → passes x ≡ true → (u : Machine) × met u × Tells passes u
+  tells_met passes fails p o2 x step is =
+      let along = own_along m.programs (Tells passes) o told turns (rested_machine m) (rests_start m still) refl leads in
+      meets ready_of turned RestsStill IsLocal local_turns reduced is_reduced (rested_machine m) t (rests_start m still) begins met closed is_met
+      (Tells passes) (tells_still passes fails) turns along.0 along.1
+    where
+      told : (u : Machine) → IsStill o → u.programs ≡ m.programs → own_here u ≡ own_rested o → Tells passes u
+      told u still_o programs here =
+          let rest = rested_step u (record { own = o; still = still_o; is = here }) p o2 x (ap (λ lib. own_step lib o p) programs ∙ step) in
+          record { pid = p; to = rest.0; told = x; step = rest.1; is = is }

@@ -1,0 +1,61 @@
+-- What a search keeps.
+use Rattle.std.specs.Prelude.{ℕ, ◌≡◌, ◌+◌, ◌-◌, ◌<◌, ◌≤◌, List, [], length, map, Option, None, Some, slice_get}
+use Rattle.zl_calls.specs.World.{Machine, own_here}
+use Rattle.zl_explore.specs.Nodes.{AreWidened, IsTree}
+use Rattle.zl_explore.specs.Orders.{told_in}
+use Rattle.zl_explore.specs.Paths.{IsIn}
+use Rattle.zl_explore.specs.GoingAhead.{reduced, start_of}
+use Rattle.zl_explore.specs.Private.{RestsStill}
+use Rattle.zl_explore.specs.Running.{ready_of}
+use Rattle.zl_explore.specs.Searching.{Search, States}
+use Rattle.zl_explore.specs.Telling.{Leads, Tells}
+use Rattle.zl_explore.specs.declared.ends.Next.{Next}
+use Rattle.zl_explore.specs.declared.ends.Next.TheVariants as next
+use Rattle.zl_explore.specs.declared.kept.Kept.{Kept}
+use Rattle.zl_explore.specs.declared.search.Node.{Node}
+
+-- the states of the ends that were told
+abbrev pub told_of : Kept → List States
+told_of k = map (λ states. states.items) k.told.items
+
+-- what is seen of it
+abbrev pub search_of : Kept → Search
+search_of k = record {
+  root = k.root;
+  told = told_of k;
+  left = k.most - k.widened;
+}
+
+-- nobody is ready in the world at the place
+pub record IsEndAt (nodes : List (Node Machine)) (place : ℕ) : Type 0 where
+  pub node : Node Machine
+  pub there : slice_get nodes place ≡ Some node
+  pub nobody : ready_of node.at ≡ []
+
+-- the states of each end among the first count worlds were told
+abbrev pub AreTold : List (Node Machine) → ℕ → List States → Type 0
+AreTold nodes count told = (i : ℕ) (n : Node Machine) → i < count → slice_get nodes i ≡ Some n → ready_of n.at ≡ [] → IsIn told (told_in (own_here n.at))
+
+-- the worlds form a tree, and the first of them were gone on from and, where they are ends, told
+pub record IsWhole (k : Kept) : Type 0 where
+  pub rests : RestsStill k.root
+  pub tree : IsTree ready_of reduced (start_of k.root) k.nodes.items
+  pub widened : AreWidened ready_of reduced k.nodes.items k.widened
+  pub told : AreTold k.nodes.items k.widened (told_of k)
+  pub within : k.widened ≤ length k.nodes.items
+
+-- one world more was gone on from, unless the search stops there; it says of no world that it was the last
+abbrev pub Moves : Option Next → (old new : ℕ) → Type 0
+Moves None old new = new ≡ old + 1
+Moves (Some (next.End e)) old new = new ≡ old + 1
+Moves (Some next.All) old new = ⊥
+Moves (Some _) old new = Unit {0}
+
+-- it went on from one world
+pub record Goes (old : Kept) (n : Option Next) (new : Kept) : Type 0 where
+  pub whole : IsWhole new
+  pub root : new.root ≡ old.root
+  pub told : Tells n (told_of old) (told_of new)
+  pub leads : Leads n (search_of old)
+  pub moves : Moves n old.widened new.widened
+  pub most : new.most ≡ old.most

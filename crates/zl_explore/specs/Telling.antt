@@ -1,0 +1,27 @@
+-- What a search tells as it goes on.
+use Rattle.std.specs.Prelude.{ℕ, ◌≡◌, ◌<◌, List, [], ◌∷◌, ◌++◌, Option, Some}
+use Rattle.zl_calls.specs.World.{Machine, own_here}
+use Rattle.zl_explore.specs.Private.{IsStill}
+use Rattle.zl_explore.specs.Searching.{AreAll, BeganWith, IsEnd, Search, States}
+use Rattle.zl_explore.specs.declared.ends.Next.{Next}
+use Rattle.zl_explore.specs.declared.ends.Next.TheVariants as next
+
+-- an end comes behind those that were told; nothing else changes them
+abbrev pub Tells : Option Next → (old new : List States) → Type 0
+Tells (Some (next.End e)) old new = new ≡ old ++ (e.states.items ∷ [])
+Tells _ old new = new ≡ old
+
+-- the turns of the end lead to it from the world that the search began with
+abbrev pub Leads : Option Next → Search → Type 0
+Leads (Some (next.End e)) s = (m : Machine) → IsStill (own_here m) → BeganWith m s → IsEnd m.programs (own_here m) e.turns.items e.states.items
+Leads _ s = Unit {0}
+
+-- behind an end there are fewer worlds to go on from
+abbrev pub Lessens : Next → (old new : ℕ) → Type 0
+Lessens (next.End e) old new = new < old
+Lessens _ old new = Unit {0}
+
+-- where it told all, every order from the world that it began with comes to one of those, if it comes to an end
+abbrev pub TellsAll : Next → Search → Type 0
+TellsAll next.All s = (m : Machine) → IsStill (own_here m) → BeganWith m s → AreAll m.programs (own_here m) s.told
+TellsAll _ s = Unit {0}

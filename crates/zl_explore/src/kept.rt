@@ -1,0 +1,197 @@
+//! What a search keeps, and how it goes on.
+
+ghost use Rattle.std.specs.Prelude.{◌≡◌, ◌++◌, ◌∷◌, ◌<◌, [], length, map, IfOk, IsTrue, OnErr, OnOk, Some};
+ghost use Rattle.zl_calls.specs.World.{own_here};
+ghost use Rattle.zl_explore.specs.GoingAhead.{Takes, reduced, start_of};
+ghost use Rattle.zl_explore.specs.Private.{IsStill};
+ghost use Rattle.zl_explore.specs.Running.{ready_of, rested_machine};
+ghost use Rattle.zl_explore.specs.Paths.{IsIn, after};
+ghost use Rattle.zl_explore.specs.Kept.{Goes, IsEndAt, IsWhole, search_of, told_of};
+ghost use Rattle.zl_explore.specs.Telling.{Leads, Lessens, Tells, TellsAll};
+
+use crate::ends::{End, Next, are_same, digest_of};
+use crate::machine::Machine;
+use crate::places::Places;
+use crate::running::Running;
+use crate::search::{Course, Node, turns_to, widen};
+use std::alloc::{AllocError, Global};
+use zl_calls::World;
+use zl_code::ProcState;
+use zl_rights::Pid;
+
+/// The worlds that were met, and the ends that were told.
+#[derive(Drop)]
+pub struct Kept {
+    pub alloc: Global,
+    /// Where it began, before anybody went ahead.
+    pub root: Running,
+    pub nodes: Vec<Node<Running>>,
+    pub course: Course,
+    /// How many worlds there may be.
+    pub most: usize,
+    /// So many of the first worlds were gone on from or, where they are ends, told.
+    pub widened: usize,
+    /// The states of each end that was told.
+    pub told: Vec<Vec<(Pid, ProcState)>>,
+    /// Where these stand, by their digests.
+    pub told_places: Places,
+}
+
+impl Kept {
+    /// The world alone.
+    pub fn new(alloc: Global, world: World, most: usize) -> Result<Kept, AllocError>
+        requires { IsStill (own_here world) }
+        ensures whole { IfOk result IsWhole }
+        ensures root { IfOk result (λ kept. kept.root ≡ rested_machine world) }
+        ensures told { IfOk result (λ kept. told_of kept ≡ []) }
+        ensures left { IfOk result (λ kept. (search_of kept).left ≡ most) }
+    {
+        let root = Running::new(alloc, world);
+        let start = root.copy()?.begin(&mut Vec::new(alloc))?;
+        let mut places = Places::new(alloc);
+        places.push(start.digest())?;
+        let mut nodes = Vec::new(alloc);
+        nodes.push(Node {
+            at: start,
+            from: 0,
+            by: 0,
+        })?;
+        Ok(Kept {
+            alloc,
+            root,
+            nodes,
+            course: Course { places, turns: 0 },
+            most,
+            widened: 0,
+            told: Vec::new(alloc),
+            told_places: Places::new(alloc),
+        })
+    }
+
+    /// Goes on until there is an end that wasn't told, or no more to go on from.
+    pub fn next_end(&mut self) -> Next
+        requires { IsWhole self.old }
+        ensures whole { IsWhole self.new }
+        ensures root { self.new.root ≡ self.old.root }
+        ensures told { Tells (Some result) (told_of self.old) (told_of self.new) }
+        ensures leads { Leads (Some result) (search_of self.old) }
+        ensures left { Lessens result (search_of self.old).left (search_of self.new).left }
+        ensures all { TellsAll result (search_of self.new) }
+    {
+        for _ in self.widened..self.most {
+            if self.widened >= self.nodes.len() {
+                return Next::All;
+            }
+            if let Some(next) = self.widen_one() {
+                return next;
+            }
+        }
+        if self.widened < self.nodes.len() {
+            return Next::Cut;
+        }
+        Next::All
+    }
+
+    /// Goes on from the next world. Nothing where that is no end that wasn't told.
+    fn widen_one(&mut self) -> Option<Next>
+        requires whole { IsWhole self.old }
+        requires more { self.old.widened < length self.old.nodes.items }
+        ensures { Goes self.old result self.new }
+    {
+        let Ok(pids) = self.nodes[self.widened].at.ready() else {
+            return Some(Next::Memory);
+        };
+        if pids.is_empty() {
+            return self.end_here();
+        }
+        let (place, most) = (self.widened, self.most);
+        match widen(&mut self.nodes, &mut self.course, place, &pids, most) {
+            Ok(true) => {
+                self.widened += 1;
+                None
+            }
+            Ok(false) => Some(Next::Cut),
+            Err(_) => Some(Next::Memory),
+        }
+    }
+
+    /// Tells of the next world, in which nobody is ready, unless an end like it was told.
+    fn end_here(&mut self) -> Option<Next>
+        requires whole { IsWhole self.old }
+        requires end { IsEndAt self.old.nodes.items self.old.widened }
+        ensures { Goes self.old result self.new }
+    {
+        let Ok(states) = self.nodes[self.widened].at.states() else {
+            return Some(Next::Memory);
+        };
+        let digest = digest_of(&states);
+        if is_told(&self.told, &self.told_places, &states, digest) {
+            self.widened += 1;
+            return None;
+        }
+        let Ok(turns) = turns_to(self.alloc, &self.nodes, self.widened) else {
+            return Some(Next::Memory);
+        };
+        let Ok(turns) = taken_by(self.alloc, &self.root, &turns) else {
+            return Some(Next::Memory);
+        };
+        let Ok(()) = self.keep_told(&states, digest) else {
+            return Some(Next::Memory);
+        };
+        self.widened += 1;
+        Some(Next::End(End { states, turns }))
+    }
+
+    /// These states were told.
+    fn keep_told(&mut self, states: &[(Pid, ProcState)], digest: u64) -> Result<(), AllocError>
+        ensures ok { OnOk result (told_of self.new ≡ told_of self.old ++ states.now ∷ []) }
+        ensures err { OnErr result (told_of self.new ≡ told_of self.old) }
+        ensures root { self.new.root ≡ self.old.root }
+        ensures nodes { self.new.nodes ≡ self.old.nodes }
+        ensures widened { self.new.widened ≡ self.old.widened }
+        ensures most { self.new.most ≡ self.old.most }
+    {
+        let kept = states.to_vec(self.alloc)?;
+        self.told_places.push(digest)?;
+        self.told.push(kept)?;
+        Ok(())
+    }
+}
+
+/// Whose instructions the turns take, in their order, from where the search began.
+fn taken_by(alloc: Global, root: &Running, turns: &[Pid]) -> Result<Vec<Pid>, AllocError>
+    ensures { IfOk result (λ taken. Takes root.now [] taken.items
+        (after ready_of reduced (start_of root.now) turns.now)) }
+{
+    let mut taken = Vec::new(alloc);
+    let mut at = root.copy()?.begin(&mut taken)?;
+    for pid in turns {
+        at = at.take_turn(*pid, &mut taken)?;
+    }
+    Ok(taken)
+}
+
+/// Whether an end with these states was told.
+fn is_told(
+    told: &[Vec<(Pid, ProcState)>],
+    places: &Places,
+    states: &[(Pid, ProcState)],
+    digest: u64,
+) -> bool
+    ensures { IsTrue result → IsIn (map (λ one. one.items) told.now) states.now }
+{
+    let mut next = places.last(digest);
+    for _ in 0..told.len() {
+        let Some(place) = next else {
+            return false;
+        };
+        let Some(one) = told.get(place) else {
+            return false;
+        };
+        if are_same(one, states) {
+            return true;
+        }
+        next = places.before(place);
+    }
+    false
+}

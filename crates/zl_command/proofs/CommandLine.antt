@@ -38,8 +38,11 @@ replay_shape = shape_at 3
 abbrev run_shape : Shape
 run_shape = shape_at 4
 
+abbrev explore_shape : Shape
+explore_shape = shape_at 5
+
 abbrev help_shape : Shape
-help_shape = shape_at 5
+help_shape = shape_at 6
 
 asm_filled : Each (KeepsRows asm_shape.rules asm_shape.args_override_self IsFilled) asm_shape.rules
 asm_filled = (
@@ -117,6 +120,25 @@ run_burst =
     let burst = number_keeps rules again (codes "burst") 1 1000000 2 false in
     (scenario, (workers, (limit, (burst, ((λ values rows e each. each), tt)))))
 
+-- each argument of `explore` keeps the fact of rows
+abbrev ExploreKeeps : (Row → Type 0) → Type 0
+ExploreKeeps R = Each (KeepsRows explore_shape.rules explore_shape.args_override_self R) explore_shape.rules
+
+explore_filled : ExploreKeeps IsFilled
+explore_filled =
+    let rules = explore_shape.rules in
+    let again = explore_shape.args_override_self in
+    let worlds = option_keeps rules again (codes "worlds") 1 1000000000 2 false in
+    (needed_keeps rules again (codes "SCENARIO") 1, (worlds, ((λ values rows e filled_rows. filled_rows), tt)))
+
+explore_worlds : ExploreKeeps (IsNumberRow (codes "worlds") 1 1000000000)
+explore_worlds =
+    let rules = explore_shape.rules in
+    let again = explore_shape.args_override_self in
+    let scenario = other_keeps rules again (codes "worlds") 1 1000000000 scenario_rule refl refl refl in
+    let worlds = number_keeps rules again (codes "worlds") 1 1000000000 2 false in
+    (scenario, (worlds, ((λ values rows e each. each), tt)))
+
 both_given : (a b : Bool) → check_kinds false false (not a || (not b || false)) ≡ [] → (a ≡ true) × (b ≡ true)
 both_given true true e = (refl, refl)
 both_given _ _ e = cc
@@ -176,6 +198,15 @@ run_values words e =
     let burst = run_fits (IsNumberRow (codes "burst") 1 1000000) run_burst words e in
     (given_first (codes "SCENARIO") _ filled_rows.0 given.0, workers_is, limit_is, may_have_number (codes "burst") 1 1000000 _ burst.0)
 
+explore_values : (words : List Text) → level_fault explore_shape [] nothing_held words false [] ≡ []
+    → HasValue (rows_after explore_shape.rules [] words) (codes "SCENARIO")
+    × MayHaveNumber (rows_after explore_shape.rules [] words) (codes "worlds") 1 1000000000
+explore_values words e =
+    let end = level_fits explore_shape [] IsFilled explore_filled (λ _. Unit {0}) (λ name word h none. tt) words false [] (refl, (refl, (refl, tt))) e in
+    let numbers = level_fits explore_shape [] (IsNumberRow (codes "worlds") 1 1000000000) explore_worlds (λ _. Unit {0}) (λ name word h none. tt) words false
+    [] (refl, (refl, (refl, tt))) e in
+    (given_first (codes "SCENARIO") _ end.0 (one_given _ end.3), may_have_number (codes "worlds") 1 1000000000 _ numbers.0)
+
 -- ---- the program's level
 
 abbrev IsNoHelp : Text → Type 0
@@ -207,9 +238,10 @@ any_row : (rules : List Rule) (again : Bool) (all : List Rule) → Each (KeepsRo
 any_row rules again [] = tt
 any_row rules again (a ∷ rest) = ((λ values rows e r. no_fact (used a values rows)), any_row rules again rest)
 
-abbrev found_shape : (is_asm is_check is_step is_replay is_run is_help : Bool) → Option Shape
-found_shape is_asm is_check is_step is_replay is_run is_help =
-    let others = cond is_replay (Some replay_shape) (cond is_run (Some run_shape) (cond is_help (Some help_shape) None)) in
+abbrev found_shape : (is_asm is_check is_step is_replay is_run is_explore is_help : Bool) → Option Shape
+found_shape is_asm is_check is_step is_replay is_run is_explore is_help =
+    let last = cond is_explore (Some explore_shape) (cond is_help (Some help_shape) None) in
+    let others = cond is_replay (Some replay_shape) (cond is_run (Some run_shape) last) in
     cond is_asm (Some asm_shape) (cond is_check (Some check_shape) (cond is_step (Some step_shape) others))
 
 abbrev names : Text → Text → Bool
@@ -219,27 +251,30 @@ entered_values : (stop : Option (Text × List Text)) → IfSome stop (λ p. IsNo
     → HasValues (entered (built commands) stop)
 entered_values None named e = tt
 entered_values (Some p) named e =
-    let asm = names p.0 (codes "asm") in
-    go asm (names p.0 (codes "check")) (names p.0 (codes "step")) (names p.0 (codes "replay")) (names p.0 (codes "run")) (names p.0 (codes "help")) named e
+    let is = names p.0 in
+    go (is (codes "asm")) (is (codes "check")) (is (codes "step")) (is (codes "replay")) (is (codes "run")) (is (codes "explore")) (is (codes "help")) named e
   where
-    go : (is_asm is_check is_step is_replay is_run is_help : Bool) → is_help ≡ false
-        → option_map_or (λ s. level_fault s [] nothing_held p.1 false []) (found_shape is_asm is_check is_step is_replay is_run is_help) [] ≡ []
-        → HasValues (option_map (λ s. rows_at s p.1) (found_shape is_asm is_check is_step is_replay is_run is_help))
-    go true is_check is_step is_replay is_run is_help none e =
+    go : (is_asm is_check is_step is_replay is_run is_explore is_help : Bool) → is_help ≡ false
+        → option_map_or (λ s. level_fault s [] nothing_held p.1 false []) (found_shape is_asm is_check is_step is_replay is_run is_explore is_help) [] ≡ []
+        → HasValues (option_map (λ s. rows_at s p.1) (found_shape is_asm is_check is_step is_replay is_run is_explore is_help))
+    go true is_check is_step is_replay is_run is_explore is_help none e =
         let values = asm_values p.1 e in
         inl (refl, values.0, values.1)
-    go false true is_step is_replay is_run is_help none e = inr (inl (refl, check_values p.1 e))
-    go false false true is_replay is_run is_help none e =
+    go false true is_step is_replay is_run is_explore is_help none e = inr (inl (refl, check_values p.1 e))
+    go false false true is_replay is_run is_explore is_help none e =
         let values = step_values p.1 e in
         inr (inr (inl (refl, values.0, values.1)))
-    go false false false true is_run is_help none e =
+    go false false false true is_run is_explore is_help none e =
         let values = replay_values p.1 e in
         inr (inr (inr (inl (refl, values.0, values.1))))
-    go false false false false true is_help none e =
+    go false false false false true is_explore is_help none e =
         let values = run_values p.1 e in
-        inr (inr (inr (inr (refl, values.0, values.1, values.2, values.3))))
-    go false false false false false true none e = absurd (true≢false none)
-    go false false false false false false none e = tt
+        inr (inr (inr (inr (inl (refl, values.0, values.1, values.2, values.3)))))
+    go false false false false false true is_help none e =
+        let values = explore_values p.1 e in
+        inr (inr (inr (inr (inr (refl, values.0, values.1)))))
+    go false false false false false false true none e = absurd (true≢false none)
+    go false false false false false false false none e = tt
 
 -- where clap finds no fault, a subcommand that it finds has its values
 pub found_values : (words : List Text) → fault_of commands words ≡ [] → HasValues (subcommand_of commands words)

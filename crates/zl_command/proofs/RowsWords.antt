@@ -25,6 +25,17 @@ threads words = option_map (λ found. (
   number_of (codes "burst") found.1,
 )) (subcommand_of commands words)
 
+abbrev orders : List Text → Option (Text × Option Text × Option ℕ)
+orders words =
+    option_map (λ found. (found.0, first_of (codes "SCENARIO") found.1, number_of (codes "worlds") found.1)) (subcommand_of commands words)
+
+abbrev with_worlds : Text → List Text
+with_worlds worlds = codes "explore" ∷ codes "a" ∷ codes "--worlds" ∷ worlds ∷ []
+
+-- the words are taken, for a search over the scenario `a`, over so many worlds if it is said
+abbrev SearchesBy : List Text → Option ℕ → Type 0
+SearchesBy words worlds = (takes commands words ≡ true) × (orders words ≡ Some (codes "explore", Some (codes "a"), worlds))
+
 abbrev with_both : Text → Text → List Text
 with_both workers limit = codes "run" ∷ codes "a" ∷ codes "--workers" ∷ workers ∷ codes "--limit" ∷ limit ∷ []
 
@@ -209,3 +220,55 @@ bursts_without_a_number = refl
 bursts_twice : fault_of commands (with_all (codes "256") ++ (codes "--burst=256" ∷ [])) ≡ kind.ArgumentConflict ∷ []
 unfolding clap_on_literals
 bursts_twice = refl
+
+over_all_orders : SearchesBy (codes "explore" ∷ codes "a" ∷ []) None
+unfolding clap_on_literals
+over_all_orders = (refl, refl)
+
+over_so_many_worlds : SearchesBy (with_worlds (codes "5000")) (Some 5000)
+unfolding clap_on_literals
+over_so_many_worlds = (refl, refl)
+
+worlds_first : SearchesBy (codes "explore" ∷ codes "--worlds=+07" ∷ codes "a" ∷ []) (Some 7)
+unfolding clap_on_literals
+worlds_first = (refl, refl)
+
+the_fewest_worlds : SearchesBy (with_worlds (codes "1")) (Some 1)
+unfolding clap_on_literals
+the_fewest_worlds = (refl, refl)
+
+the_most_worlds : SearchesBy (with_worlds (codes "1000000000")) (Some 1000000000)
+unfolding clap_on_literals
+the_most_worlds = (refl, refl)
+
+no_such_worlds : (fault_of commands (with_worlds (codes "0")) ≡ kind.ValueValidation ∷ [])
+    × (fault_of commands (with_worlds (codes "1000000001")) ≡ kind.ValueValidation ∷ [])
+    × (fault_of commands (with_worlds (codes "18446744073709551616")) ≡ kind.ValueValidation ∷ [])
+    × (fault_of commands (with_worlds (codes "x")) ≡ kind.ValueValidation ∷ [])
+    × (fault_of commands (with_worlds []) ≡ kind.ValueValidation ∷ [])
+unfolding clap_on_literals
+no_such_worlds = (refl, refl, refl, refl, refl)
+
+worlds_without_a_number : fault_of commands (codes "explore" ∷ codes "a" ∷ codes "--worlds" ∷ []) ≡ kind.InvalidValue ∷ []
+unfolding clap_on_literals
+worlds_without_a_number = refl
+
+worlds_twice : fault_of commands (with_worlds (codes "7") ++ (codes "--worlds=7" ∷ [])) ≡ kind.ArgumentConflict ∷ []
+unfolding clap_on_literals
+worlds_twice = refl
+
+nothing_to_search : fault_of commands (codes "explore" ∷ []) ≡ kind.MissingRequiredArgument ∷ []
+unfolding clap_on_literals
+nothing_to_search = refl
+
+two_to_search : fault_of commands (codes "explore" ∷ codes "a" ∷ codes "b" ∷ []) ≡ kind.UnknownArgument ∷ []
+unfolding clap_on_literals
+two_to_search = refl
+
+workers_of_a_search : fault_of commands (codes "explore" ∷ codes "a" ∷ codes "--workers" ∷ codes "4" ∷ []) ≡ kind.UnknownArgument ∷ []
+unfolding clap_on_literals
+workers_of_a_search = refl
+
+worlds_of_a_run : fault_of commands (with_both (codes "4") (codes "1000") ++ (codes "--worlds" ∷ codes "7" ∷ [])) ≡ kind.UnknownArgument ∷ []
+unfolding clap_on_literals
+worlds_of_a_run = refl

@@ -10,7 +10,7 @@ use Rattle.clap.specs.declared.error.kind.ErrorKind.TheVariants.{DisplayHelp, Di
 use Rattle.zl_command.specs.declared.command.Asked.{Asked}
 use Rattle.zl_command.specs.declared.command.Asked.TheVariants as asked
 use Rattle.zl_command.specs.declared.command.Task.{Task}
-use Rattle.zl_command.specs.declared.command.Task.TheVariants.{Assemble, Check, Input, Step, Replay, Run}
+use Rattle.zl_command.specs.declared.command.Task.TheVariants.{Assemble, Check, Explore, Input, Step, Replay, Run}
 use Rattle.zl_command.specs.declared.command.WordFault.{WordFault}
 use Rattle.zl_command.specs.declared.command.WordFault.TheVariants.{Usage, NoMemory}
 
@@ -62,9 +62,14 @@ abbrev pub running : App
 running = fold with_rule (command_of (codes "run") (codes "SCENARIO" ∷ []))
     (numbered (codes "workers") 1 64 ∷ numbered (codes "limit") 0 1000000 ∷ optional (numbered (codes "burst") 1 1000000) ∷ [])
 
+-- explore SCENARIO [--worlds N]
+abbrev pub exploring : App
+exploring = with_rule (command_of (codes "explore") (codes "SCENARIO" ∷ [])) (optional (numbered (codes "worlds") 1 1000000000))
+
 -- the command set: no words, or those of one of the commands
 abbrev pub commands : App
-commands = fold (λ made command. with_subcommand made command.top) program (assembling ∷ checking ∷ stepping ∷ replaying ∷ running ∷ [])
+commands = fold (λ made command. with_subcommand made command.top) program
+    (assembling ∷ checking ∷ stepping ∷ replaying ∷ running ∷ exploring ∷ [])
 
 -- clap finds a value of this name
 abbrev pub HasValue : List Row → Text → Type 0
@@ -93,8 +98,9 @@ HasItsValues name rows =
     ⊎ (((name ≡ codes "check") × HasValue rows (codes "IMAGE"))
     ⊎ (((name ≡ codes "step") × HasValue rows (codes "SCENARIO") × HasValue rows (codes "SCHEDULE"))
     ⊎ (((name ≡ codes "replay") × HasValue rows (codes "SCENARIO") × HasValue rows (codes "TRACE"))
-    ⊎ ((name ≡ codes "run") × HasValue rows (codes "SCENARIO") × HasNumber rows (codes "workers") 1 64
-    × HasNumber rows (codes "limit") 0 1000000 × MayHaveNumber rows (codes "burst") 1 1000000))))
+    ⊎ (((name ≡ codes "run") × HasValue rows (codes "SCENARIO") × HasNumber rows (codes "workers") 1 64
+    × HasNumber rows (codes "limit") 0 1000000 × MayHaveNumber rows (codes "burst") 1 1000000)
+    ⊎ ((name ≡ codes "explore") × HasValue rows (codes "SCENARIO") × MayHaveNumber rows (codes "worlds") 1 1000000000)))))
 
 -- clap finds no subcommand, or one of the command set with its values
 abbrev pub HasValues : Option (Text × List Row) → Type 0
@@ -120,6 +126,9 @@ AsksFor (Some found) (Run scenario workers limit burst) = (found.0 ≡ codes "ru
     × (number_of (codes "workers") found.1 ≡ Some workers) × (1 ≤ workers) × (workers ≤ 64)
     × (number_of (codes "limit") found.1 ≡ Some limit) × (limit ≤ 1000000)
     × (burst ≡ unwrap_or (number_of (codes "burst") found.1) 256) × (1 ≤ burst) × (burst ≤ 1000000)
+AsksFor (Some found) (Explore scenario worlds) = (found.0 ≡ codes "explore")
+    × (first_of (codes "SCENARIO") found.1 ≡ Some scenario.now)
+    × (worlds ≡ unwrap_or (number_of (codes "worlds") found.1) 1000000) × (1 ≤ worlds) × (worlds ≤ 1000000000)
 AsksFor _ _ = ⊥
 
 -- of an answer that is a task, the task has the fact

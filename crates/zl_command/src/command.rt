@@ -3,7 +3,7 @@ ghost use Rattle.std.specs.Prelude.{◌≡◌, ◌≢◌, ◌≤◌, Some, IfOk,
 ghost use Rattle.clap.specs.Takes.{takes};
 ghost use Rattle.clap.specs.Words.{app_of, fault_of, first_of, found_of, kind_of, rows_of, rule_of, subcommand_of, subcommand_rows_of};
 ghost use Rattle.zl_command.specs.Words.{AnswersError, AsksFor, GivesText, HasItsValues, HasNumber, HasValue, HasValues, IfTask, IfText, MayAskForHelp, MayHaveNumber};
-ghost use Rattle.zl_command.specs.Words.{assembling, checking, commands, needed, number_of, numbered, replaying, running, stepping};
+ghost use Rattle.zl_command.specs.Words.{assembling, checking, commands, exploring, needed, number_of, numbered, replaying, running, stepping};
 ghost use Rattle.zl_command.specs.declared.command.WordFault.TheVariants.{NoMemory, Usage};
 
 mod texts;
@@ -66,6 +66,14 @@ pub enum Task<'a> {
         limit: u64,
         /// How many local instructions a burst has at most, 1 to 1,000,000; 256 without the option.
         burst: u32,
+    },
+    /// `explore SCENARIO [--worlds N]`: all turns of a scenario are taken in each order, and each end
+    /// that is met is written.
+    Explore {
+        /// The path of the scenario.
+        scenario: &'a str,
+        /// How many worlds are met at most, 1 to 1,000,000,000; 1,000,000 without the option.
+        worlds: u32,
     },
 }
 
@@ -164,6 +172,11 @@ fn task_of_command<'a>(name: &str, values: &ArgMatches<'a>) -> Task<'a>
             limit: limit(values),
             burst: burst(values),
         }
+    } else if name == "explore" {
+        Task::Explore {
+            scenario: value(values, "SCENARIO"),
+            worlds: worlds(values),
+        }
     } else {
         Task::Check {
             image: value(values, "IMAGE"),
@@ -207,6 +220,16 @@ fn burst<'a>(matches: &ArgMatches<'a>) -> u32
     matches.get_one("burst").unwrap_or(256)
 }
 
+/// The most worlds of a search, which are 1,000,000 where the words have no number.
+fn worlds<'a>(matches: &ArgMatches<'a>) -> u32
+    requires { MayHaveNumber (rows_of (found_of matches.now)) (codes "worlds") 1 1000000000 }
+    ensures value { result
+        ≡ unwrap_or (number_of (codes "worlds") (rows_of (found_of matches.now))) 1000000 }
+    ensures within { (1 ≤ result) × (result ≤ 1000000000) }
+{
+    matches.get_one("worlds").unwrap_or(1_000_000)
+}
+
 /// The command set, with what the help says of it.
 fn command<'a>(alloc: Global) -> Result<Command<'a>, AllocError>
     ensures { IfOk result (λ made. app_of made ≡ commands) }
@@ -221,7 +244,8 @@ fn command<'a>(alloc: Global) -> Result<Command<'a>, AllocError>
         .subcommand(checking(alloc)?)?
         .subcommand(stepping(alloc)?)?
         .subcommand(replaying(alloc)?)?
-        .subcommand(running(alloc)?)
+        .subcommand(running(alloc)?)?
+        .subcommand(exploring(alloc)?)
 }
 
 fn assembling<'a>(alloc: Global) -> Result<Command<'a>, AllocError>
@@ -271,6 +295,16 @@ fn running<'a>(alloc: Global) -> Result<Command<'a>, AllocError>
         .arg(workers)?
         .arg(limit)?
         .arg(burst.required(false))
+}
+
+fn exploring<'a>(alloc: Global) -> Result<Command<'a>, AllocError>
+    ensures { IfOk result (λ made. app_of made ≡ exploring) }
+{
+    let worlds = numbered(alloc, "worlds", "N", texts::WORLDS, 1, 1_000_000_000);
+    Command::new(alloc, "explore")
+        .about("Takes the turns of the scenario in the file SCENARIO in each order, for its ends")
+        .arg(needed(alloc, "SCENARIO", "The file of the scenario"))?
+        .arg(worlds.required(false))
 }
 
 /// An option that must be there, whose value is a number from the one to the other.

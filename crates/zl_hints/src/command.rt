@@ -5,7 +5,7 @@ use std::convert::AsStr;
 use std::mem;
 use zl_program_hints::{Value, Word, push_nearest, push_text};
 
-const COMMANDS: [&str; 6] = ["asm", "check", "step", "replay", "run", "help"];
+const COMMANDS: [&str; 7] = ["asm", "check", "step", "replay", "run", "explore", "help"];
 
 /// A command whose words are files.
 #[derive(Clone, Copy)]
@@ -46,9 +46,11 @@ const REPLAY: Form = Form {
     next: "third",
 };
 
-/// An option of `run`, and which numbers it takes.
+/// An option, and which numbers it takes.
 #[derive(Clone, Copy)]
 struct Numbered {
+    /// The command that has it.
+    command: &'static str,
     name: &'static str,
     /// Its number in the form of the command.
     letter: &'static str,
@@ -57,6 +59,7 @@ struct Numbered {
 }
 
 const WORKERS: Numbered = Numbered {
+    command: "run",
     name: "--workers",
     letter: "N",
     least: 1,
@@ -64,6 +67,7 @@ const WORKERS: Numbered = Numbered {
 };
 
 const LIMIT: Numbered = Numbered {
+    command: "run",
     name: "--limit",
     letter: "M",
     least: 0,
@@ -71,19 +75,30 @@ const LIMIT: Numbered = Numbered {
 };
 
 const BURST: Numbered = Numbered {
+    command: "run",
     name: "--burst",
     letter: "K",
     least: 1,
     most: 1_000_000,
 };
 
-/// What was met of the words behind `run`.
+const WORLDS: Numbered = Numbered {
+    command: "explore",
+    name: "--worlds",
+    letter: "N",
+    least: 1,
+    most: 1_000_000_000,
+};
+
+/// What was met of the words behind a command with options.
 #[derive(Clone, Copy)]
 struct Met {
+    command: &'static str,
     has_file: bool,
     has_workers: bool,
     has_limit: bool,
     has_burst: bool,
+    has_worlds: bool,
     /// Whether a word `--` was among them.
     are_files: bool,
     /// The option whose number is the next word.
@@ -93,6 +108,8 @@ struct Met {
 const OPTIONS: [&str; 4] = ["--help", "--version", "-h", "-V"];
 
 const OPTIONS_OF_RUN: [&str; 4] = ["--workers", "--limit", "--burst", "--help"];
+
+const OPTIONS_OF_EXPLORE: [&str; 2] = ["--worlds", "--help"];
 
 /// Adds which of the words, those behind the program's name, wasn't understood.
 pub fn explain_words<S: AsStr>(hint: &mut String, alloc: Global, words: &[S]) {
@@ -119,10 +136,13 @@ fn push_words<S: AsStr>(hint: &mut String, alloc: Global, words: &[S]) -> Result
         return push_files(hint, REPLAY, rest);
     }
     if word == "run" {
-        return push_run(hint, alloc, rest);
+        return push_options(hint, alloc, "run", rest);
+    }
+    if word == "explore" {
+        return push_options(hint, alloc, "explore", rest);
     }
     if word == "help" {
-        return hint.push_str("help takes one of asm, check, step, replay and run");
+        return hint.push_str("help takes one of asm, check, step, replay, run and explore");
     }
     if word == "-" {
         return hint.push_str("standard input is read only by the form without words");
@@ -188,13 +208,20 @@ fn push_files<S: AsStr>(hint: &mut String, form: Form, words: &[S]) -> Result<()
     write!(hint, "{command} takes {files}, and has {found}")
 }
 
-/// Adds what is wrong with the words behind `run`.
-fn push_run<S: AsStr>(hint: &mut String, alloc: Global, words: &[S]) -> Result<(), AllocError> {
+/// Adds what is wrong with the words behind this command with options.
+fn push_options<S: AsStr>(
+    hint: &mut String,
+    alloc: Global,
+    command: &'static str,
+    words: &[S],
+) -> Result<(), AllocError> {
     let mut met = Met {
+        command,
         has_file: false,
         has_workers: false,
         has_limit: false,
         has_burst: false,
+        has_worlds: false,
         are_files: false,
         open: None,
     };
@@ -206,7 +233,7 @@ fn push_run<S: AsStr>(hint: &mut String, alloc: Global, words: &[S]) -> Result<(
     push_missing(hint, met)
 }
 
-/// Adds what is wrong with the next word behind `run`, if something is.
+/// Adds what is wrong with the next word behind the command, if something is.
 fn push_wrong_word(
     hint: &mut String,
     alloc: Global,
@@ -227,8 +254,9 @@ fn push_wrong_word(
     let is_second = met.has_file;
     met.has_file = true;
     if is_second {
-        let text = "run takes one file, SCENARIO, and # is a second word";
-        push_text(hint, text, &[Value::Word(word.as_bytes())])?;
+        let values = [Value::Name(met.command), Value::Word(word.as_bytes())];
+        let text = "# takes one file, SCENARIO, and # is a second word";
+        push_text(hint, text, &values)?;
     }
     Ok(is_second)
 }
@@ -240,22 +268,26 @@ fn push_wrong_option(
     met: &mut Met,
     word: &str,
 ) -> Result<bool, AllocError> {
-    for option in [WORKERS, LIMIT, BURST] {
+    for option in [WORKERS, LIMIT, BURST, WORLDS] {
         if let Some(rest) = word.strip_prefix(option.name) {
-            if rest.is_empty() || rest.starts_with('=') {
+            let is_it = rest.is_empty() || rest.starts_with('=');
+            if is_it && option.command == met.command {
                 return push_wrong_use(hint, met, option, rest);
             }
         }
     }
     let word = word.as_bytes();
-    push_text(hint, "run has no option #", &[Value::Word(word)])?;
-    if word.len() > 2 {
+    let values = [Value::Name(met.command), Value::Word(word)];
+    push_text(hint, "# has no option #", &values)?;
+    if word.len() > 2 && met.command == "run" {
         push_nearest(hint, alloc, word, &OPTIONS_OF_RUN)?;
+    } else if word.len() > 2 {
+        push_nearest(hint, alloc, word, &OPTIONS_OF_EXPLORE)?;
     }
     Ok(true)
 }
 
-/// Adds what is wrong with an option of `run`, whose number may stand behind its name, if something is.
+/// Adds what is wrong with an option, whose number may stand behind its name, if something is.
 fn push_wrong_use(
     hint: &mut String,
     met: &mut Met,
@@ -266,8 +298,10 @@ fn push_wrong_use(
         &mut met.has_workers
     } else if option.name == LIMIT.name {
         &mut met.has_limit
-    } else {
+    } else if option.name == BURST.name {
         &mut met.has_burst
+    } else {
+        &mut met.has_worlds
     };
     if mem::replace(is_met, true) {
         push_text(hint, "# stands twice", &[Value::Name(option.name)])?;
@@ -306,14 +340,18 @@ fn push_range(hint: &mut String, option: Numbered) -> Result<(), AllocError> {
     push_text(hint, "# takes a number from # to #", &values)
 }
 
-/// Adds what is missing behind `run`.
+/// Adds what is missing behind the command.
 fn push_missing(hint: &mut String, met: Met) -> Result<(), AllocError> {
     if let Some(option) = met.open {
         push_range(hint, option)?;
         return hint.push_str(", and has none");
     }
     if !met.has_file {
-        return hint.push_str("run takes one file, SCENARIO, and has none");
+        let text = "# takes one file, SCENARIO, and has none";
+        return push_text(hint, text, &[Value::Name(met.command)]);
+    }
+    if met.command == "explore" {
+        return hint.push_str("explore takes SCENARIO [--worlds N]");
     }
     if met.has_workers && met.has_limit {
         return hint.push_str("run takes SCENARIO --workers N --limit M [--burst K]");

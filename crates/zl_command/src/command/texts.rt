@@ -12,6 +12,9 @@ pub const LIMIT: &str = "The most items of the trace, 0 to 1000000";
 
 pub const BURST: &str = "The most local instructions at a time, 1 to 1000000 [default: 256]";
 
+/// The option of `explore`.
+pub const WORLDS: &str = "The most worlds, 1 to 1000000000 [default: 1000000]";
+
 /// The forms of the command line, and the exit statuses.
 pub const FORMS: &str = "\
 The forms of a command line:
@@ -30,6 +33,14 @@ The forms of a command line:
       256 without the option. Writes the trace that came about, with `end quiet` where no process is
       ready at the end, `end limit` or `end memory`, or `refused LINE FAULT`.
       Example: zlab run pair.zls --workers 4 --limit 1000
+  zlab explore SCENARIO [--worlds N]
+      Takes the turns of the processes of the scenario in the file SCENARIO in each order, each up
+      to its next call. Writes each end that is met: the states of all processes where none is
+      ready, and below `by` a schedule that leads there. A schedule in SCENARIO is read, and doesn't
+      count. The last line is `all W worlds T turns E ends`, `cut` in place of `all` where more than
+      N worlds are met, 1 to 1000000000, 1000000 without the option, `memory` where memory was
+      refused, or `refused LINE FAULT`.
+      Example: zlab explore examples/locks-crosswise.zls --worlds 100000
   zlab replay SCENARIO TRACE
       Does the steps of the trace in the file TRACE again, from the scenario in the file SCENARIO,
       which has no schedule. Writes `replayed N` for the number of its items, `differs N` for the
@@ -46,9 +57,10 @@ The forms of a command line:
       Example: zlab check ping.zli
 
 Exit status:
-  0  the trace, the image or the help is written, the trace replayed, or the image accepted
+  0  the trace, image, help or all ends are written, the trace replayed, or the image accepted
   1  the input is refused and its first faulty line or instruction named, or an item differs
   2  the words are in none of the forms
   3  reading or writing failed
   4  memory was refused
-After the last three a line on standard error names the reason.";
+  5  more worlds were met than `explore` was to take
+After 2, 3 and 4 a line on standard error names the reason.";

@@ -1,5 +1,5 @@
-use Rattle.zl_command.proofs.Common.{IfOk-weaker, ap, app_of, app_of_fields, ap₂, assembling, checking, on_top, program, replaying, running, stepping, true}
-use Rattle.zl_command.proofs.Common.{with_subcommand, ◌∙◌, ◌≡◌}
+use Rattle.zl_command.proofs.Common.{IfOk-weaker, ap, app_of, app_of_fields, ap₂, assembling, checking, exploring, on_top, program, replaying, running}
+use Rattle.zl_command.proofs.Common.{stepping, true, with_subcommand, ◌∙◌, ◌≡◌}
 use Rattle.clap.proofs.SimpleLemmas.{plain_fields}
 use Rattle.zl_command.proofs.command.command.Goals as goal
 
@@ -28,6 +28,9 @@ returns c =
     let local_fourth = (plain_fields c.in_ok-replaying.field-0 (ap (λ a. a.top.is_plain) replaying_is)).globals in
     let fourth = c.in_ok-subcommand-4.ensures.shape local_fourth ∙ ap₂ with_subcommand third (ap (λ a. a.top) replaying_is) in
     let running_is : app_of c.in_ok-running.field-0 ≡ running = c.in_ok-running.ensures in
-    let local_last = (plain_fields c.in_ok-running.field-0 (ap (λ a. a.top.is_plain) running_is)).globals in
-    IfOk-weaker c.subcommand-5.result _ _ (λ made added. added.shape local_last ∙ ap₂ with_subcommand fourth (ap (λ a. a.top) running_is))
-    c.subcommand-5.ensures
+    let local_fifth = (plain_fields c.in_ok-running.field-0 (ap (λ a. a.top.is_plain) running_is)).globals in
+    let fifth = c.in_ok-subcommand-5.ensures.shape local_fifth ∙ ap₂ with_subcommand fourth (ap (λ a. a.top) running_is) in
+    let exploring_is : app_of c.in_ok-exploring.field-0 ≡ exploring = c.in_ok-exploring.ensures in
+    let local_last = (plain_fields c.in_ok-exploring.field-0 (ap (λ a. a.top.is_plain) exploring_is)).globals in
+    IfOk-weaker c.subcommand-6.result _ _ (λ made added. added.shape local_last ∙ ap₂ with_subcommand fifth (ap (λ a. a.top) exploring_is))
+    c.subcommand-6.ensures

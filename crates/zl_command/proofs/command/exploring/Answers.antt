@@ -1,0 +1,11 @@
+use Rattle.zl_command.proofs.Common.{IfOk-weaker, ap, app_of_fields, ap₂, codes, numbered, optional, with_rule, ◌∙◌, ◌≡◌}
+use Rattle.clap.specs.Words.{rule_of}
+use Rattle.zl_command.proofs.command.exploring.Goals as goal
+
+pub returns : goal.returns
+returns c =
+    let first = c.in_ok-arg.ensures.shape c.needed.ensures.local ∙ ap₂ with_rule (ap app_of_fields c.about.ensures ∙ c.new.ensures.app) c.needed.ensures.rule in
+    let worlds_is : rule_of c.required.result ≡ optional (numbered (codes "worlds") 1 1000000000)
+    = ap rule_of c.required.ensures ∙ ap optional c.numbered-worlds.ensures.rule in
+    let local = ap (λ a. a.global) c.required.ensures ∙ c.numbered-worlds.ensures.local in
+    IfOk-weaker c.arg-2.result _ _ (λ made added. added.shape local ∙ ap₂ with_rule first worlds_is) c.arg-2.ensures

@@ -13,7 +13,7 @@ _zlab() {
         case "${COMP_WORDS[at]}" in
             *[\<\>]*) at=$((at + 1)) ;;
             --) only_files=yes ;;
-            --workers | --limit | --burst)
+            --workers | --limit | --burst | --worlds)
                 # Bash makes a word of `=` too.
                 [ "${COMP_WORDS[at + 1]}" = "=" ] && at=$((at + 1))
                 at=$((at + 1)) ;;
@@ -24,22 +24,23 @@ _zlab() {
     case "${COMP_WORDS[COMP_CWORD - 1]}" in
         *\>*) _zlab_files '' "$word"; return ;;
         *\<*) _zlab_files .zls "$word"; return ;;
-        --workers | --limit | --burst | =) return ;;
+        --workers | --limit | --burst | --worlds | =) return ;;
     esac
     if [[ $word = -* ]] && [ -z "$only_files" ]; then
         case "$command" in
             '') mapfile -t COMPREPLY < <(compgen -W '-h --help -V --version' -- "$word") ;;
             asm | check | step | replay) mapfile -t COMPREPLY < <(compgen -W '-h --help --' -- "$word") ;;
             run) mapfile -t COMPREPLY < <(compgen -W '-h --help --workers --limit --burst --' -- "$word") ;;
+            explore) mapfile -t COMPREPLY < <(compgen -W '-h --help --worlds --' -- "$word") ;;
         esac
         return
     fi
     case "$command $files" in
-        ' 0') mapfile -t COMPREPLY < <(compgen -W 'asm check step replay run help' -- "$word") ;;
-        'help 0') mapfile -t COMPREPLY < <(compgen -W 'asm check step replay run' -- "$word") ;;
+        ' 0') mapfile -t COMPREPLY < <(compgen -W 'asm check step replay run explore help' -- "$word") ;;
+        'help 0') mapfile -t COMPREPLY < <(compgen -W 'asm check step replay run explore' -- "$word") ;;
         'asm 0') _zlab_files .zasm "$word" ;;
         'asm 1' | 'check 0') _zlab_files .zli "$word" ;;
-        'step 0' | 'replay 0' | 'run 0') _zlab_files .zls "$word" ;;
+        'step 0' | 'replay 0' | 'run 0' | 'explore 0') _zlab_files .zls "$word" ;;
         'step 1' | 'replay 1') _zlab_files '' "$word" ;;
     esac
 }

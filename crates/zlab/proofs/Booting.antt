@@ -5,10 +5,11 @@ use Rattle.zlab.proofs.Common.{of_reading, of_statement, slice_get, slice_get-ge
 use Rattle.zl_code.proofs.Common.{World}
 use Rattle.zl_code.specs.Headline.{IsSizedBoot}
 use Rattle.zl_code.specs.OwnBoot.{own_boot}
-use Rattle.zl_calls.specs.World.{own_here}
+use Rattle.zl_calls.specs.World.{Machine, own_here}
 use Rattle.std.proofs.lemmas.Option.{slice_get_within}
 use Rattle.zl_code.specs.declared.boot.BootCause.TheVariants as boot
 use Rattle.zl_scenario.specs.declared.cause.Cause.{Cause}
+use Rattle.zlab.specs.Exploring.{IsBegun}
 use Rattle.zl_scenario.specs.declared.reading.Scenario.{Scenario as Made}
 
 -- only a want of memory has no line
@@ -59,4 +60,18 @@ module _ (text : List ℕ) (fits : FitsInput text) (scenario : Made) (reading : 
     out = out;
     limit = limit ∙ is.limit;
     schedule = schedule ∙ is.schedule;
+  }
+
+  pub is_begun : (m : Machine) → reading.fault ≡ None → m.programs ≡ scenario.library
+      → IsSizedBoot scenario.library scenario.boot.statements.items m.world
+      → own_here m ≡ own_boot scenario.library scenario.boot.statements.items → IsBegun text m scenario.boot.limit
+  is_begun m no_fault programs boots own = record {
+    fits = fits;
+    said = reading.said;
+    read = subst (λ (f : Option LineFault). IsRead text (record { said = reading.said; fault = f })) no_fault reads;
+    programs = rw programs is.programs;
+    accepted = rw programs is.accepted;
+    boots = rw programs (subst (λ (ss : List Statement). IsSizedBoot scenario.library ss m.world) is.statements boots);
+    own = rw programs (own ∙ ap (own_boot scenario.library) is.statements);
+    limit_is = is.limit;
   }

@@ -8,3 +8,5 @@ pub mod ReplayFound
 pub mod ThreadRuns
 pub mod RowsFiles
 pub mod ImageFindings
+pub mod SearchText
+pub mod Explored

@@ -54,6 +54,7 @@ pub record WritesFault (text : List ℕ) (old new : Option (List ℕ)) : Type 0 
 abbrev pub AnswersText : List ℕ → Verdict → (old_image new_image old_line new_line : Option (List ℕ)) → Type 0
 AnswersText text verdict.Done old_image new_image old_line new_line = WritesImage text old_image new_image × (new_line ≡ old_line)
 AnswersText text verdict.Refused old_image new_image old_line new_line = WritesFault text old_line new_line × (new_image ≡ old_image)
+AnswersText text _ old_image new_image old_line new_line = ⊥
 
 -- a writer got a beginning of the image
 pub record BeginsImage (text : List ℕ) (old new : Option (List ℕ)) : Type 0 where

@@ -6,3 +6,5 @@ pub mod Assembling
 pub mod Checking
 pub mod Files
 pub mod Running
+pub mod Ends
+pub mod Exploring

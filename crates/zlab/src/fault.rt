@@ -45,8 +45,12 @@ impl From<TextFault> for EngineFault {
 /// How an engine ends that has read its input and written its answer.
 #[derive(Clone, Copy, PartialEq, Eq)]
 pub enum Verdict {
-    /// The answer is written: a trace, or an image.
+    /// The answer is written: a trace, an image, or all ends.
     Done,
     /// The input is refused; the line of its first fault is written.
     Refused,
+    /// A search met as many worlds as it may, and isn't whole; what it found is written.
+    Cut,
+    /// Memory was refused to a search, which isn't whole; what it found is written.
+    Memory,
 }

@@ -6,6 +6,8 @@
 
 mod replay;
 mod run;
+mod search;
 
 pub use replay::{explain_difference, explain_items, explain_line};
 pub use run::{explain_nothing, explain_run, explain_threads};
+pub use search::explain_search;

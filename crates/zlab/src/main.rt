@@ -1,19 +1,22 @@
 //! The program: its command line, the trace of standard input or of two files, that of a run on threads,
-//! the replay of a trace, the assembler and the verifier over files, what standard error says, and its
-//! exit status.
+//! the ends of all orders, the replay of a trace, the assembler and the verifier over files, what standard
+//! error says, and its exit status.
 //!
-//! It stands on `zl_sched` for a run along a schedule, on `zl_pool` for one on threads and on `zl_trace` for
-//! its text, on `zl_scenario` for what an input says, on `zl_command` for the command line, on `zl_hints`
-//! and `zl_program_hints` for what a person is told, on `zl_asm` for the assembler, on `zl_verify` for the
-//! verifier, on `zl_calls` for the world, on `zl_interp`, `zl_code`, `zl_rights` and `zl_lines` for what these
-//! speak of, and on `thiserror`. It promises, by the contracts of `step_engine`, `step_files_engine`,
-//! `run_engine`, `replay_engine`, `asm_engine` and `check_engine`, that what is written is the answer to
-//! what was read. A run on threads may wait; all else returns.
+//! It stands on `zl_sched` for a run along a schedule, on `zl_pool` for one on threads, on `zl_explore` for
+//! the search over all orders and on `zl_trace` for its text, on `zl_scenario` for what an input says, on
+//! `zl_command` for the command line, on `zl_hints` and `zl_program_hints` for what a person is told, on
+//! `zl_asm` for the assembler, on `zl_verify` for the verifier, on `zl_calls` for the world, on
+//! `zl_interp`, `zl_code`, `zl_rights` and `zl_lines` for what these speak of, and on `thiserror`. It
+//! promises, by the contracts of `step_engine`, `step_files_engine`, `run_engine`, `explore_engine`,
+//! `replay_engine`, `asm_engine` and `check_engine`, that what is written is the answer to what was read. A
+//! run on threads may wait; all else returns.
 #![tactic(auto)]
 
 mod assembling;
 mod checking;
+mod ends;
 mod engine;
+mod exploring;
 mod fault;
 mod files;
 mod hints;
@@ -31,7 +34,7 @@ use std::rt::{Env, Files};
 use std::sync::Wait;
 use std::thread::Threads;
 use std::{env, io};
-use tasks::{assemble, check, replay, run_threads, show, step, step_files};
+use tasks::{assemble, check, explore, replay, run_threads, show, step, step_files};
 use thiserror::Error;
 use zl_command::{Asked, Task, WordFault};
 use zl_hints::explain_words;
@@ -55,10 +58,18 @@ fn main(rt: HostRuntime) -> ExitCode {
     let mut hints = String::new(rt.alloc());
     match run(&rt, &mut hints) {
         Ok(verdict) => {
-            let _ = eprint!(rt; "{hints}");
+            let _ = match verdict {
+                // a line that wants no memory
+                Verdict::Memory => {
+                    eprintln!(rt; "zlab: out of memory, so there may be other ends")
+                }
+                _ => eprint!(rt; "{hints}"),
+            };
             match verdict {
                 Verdict::Done => ExitCode::SUCCESS,
                 Verdict::Refused => ExitCode::from(1),
+                Verdict::Memory => ExitCode::from(4),
+                Verdict::Cut => ExitCode::from(5),
             }
         }
         Err(failure) => {
@@ -109,6 +120,7 @@ fn run<R: AllocGlobal + Env + Files + Input + Print + Threads + Wait + Sync>(
             },
         ) => run_threads(rt, hints, scenario, workers, limit, burst),
         Asked::Task(Task::Replay { scenario, trace }) => replay(rt, hints, scenario, trace),
+        Asked::Task(Task::Explore { scenario, worlds }) => explore(rt, hints, scenario, worlds),
     };
     Ok(ended?)
 }

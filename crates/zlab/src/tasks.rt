@@ -6,6 +6,7 @@ ghost use Rattle.zl_code.specs.Common.{MOST_ITEMS};
 use crate::assembling::asm_engine;
 use crate::checking::check_engine;
 use crate::engine::step_engine;
+use crate::exploring::explore_engine;
 use crate::fault::{EngineFault, Verdict};
 use crate::files::step_files_engine;
 use crate::replaying::replay_engine;
@@ -131,6 +132,20 @@ pub fn run_threads<R: AllocGlobal + Files + Print + Threads + Wait + Sync>(
         limit,
         burst,
     );
+    answer_with(hints, ended, &reader, &writer)
+}
+
+/// Searches all orders of the scenario in the file, over so many worlds at most, and answers on standard
+/// output.
+pub fn explore<R: AllocGlobal + Files + Print>(
+    rt: &R,
+    hints: &mut String,
+    scenario: &str,
+    worlds: u32,
+) -> Result<Verdict, EngineFault> {
+    let mut reader = Told::new(scenario, open(rt, hints, scenario)?);
+    let mut writer = Told::new(OUTPUT, io::writer(rt));
+    let ended = explore_engine(rt.alloc(), &mut reader, &mut writer, hints, worlds);
     answer_with(hints, ended, &reader, &writer)
 }
 

@@ -6,7 +6,7 @@ use Rattle.std.proofs.lemmas.List.{append_assoc}
 use Rattle.std.proofs.lemmas.Bool.{cases_lt}
 use mathlib.Core.Logic.{inl, inr}
 use Rattle.zl_explore.specs.Paths.{IsIn}
-use Rattle.zl_explore.specs.Nodes.{IsMet, ComesFrom, IsTree, IsWidened, AreWidened, Extends, Grows}
+use Rattle.zl_explore.specs.Nodes.{IsMet, ComesFrom, IsTree, IsWidened, AreWidened, Extends, Grows, Stands}
 use Rattle.zl_explore.specs.declared.search.Node.{Node}
 use Rattle.zl_explore.proofs.Lists.{get_left, get_last, get_either, get_below, there_is}
 
@@ -45,6 +45,12 @@ module _ {S : Type 0} (ready : S → List ℕ) (next : S → ℕ → S) where
   unfolding IsWidened AreWidened
   widened_more nodes more count few widened = λ i n below there p is_in.
       met_more nodes more (next n.at p) (widened i n below (get_below nodes more i n (omega (arith, below, few)) there) p is_in)
+
+  pub stands_extends : (old : List (Node S)) (n : Node S) (new : List (Node S)) (place : ℕ) → Stands ready next old n new place → Extends old new
+  stands_extends old n new place at = elim at.is [
+    | inl same ↦ ([], same ∙ sym (append-nil old))
+    | inr more ↦ (n ∷ [], more)
+  ]
 
   module _ (old : List (Node S)) (place : ℕ) (pids : List ℕ) where
     pub grows_none : (new : List (Node S)) → new ≡ old → Grows ready next old place pids 0 new
@@ -100,6 +106,19 @@ module _ {S : Type 0} (ready : S → List ℕ) (next : S → ℕ → S) where
               (λ m m_there. subst (λ (k : Node S). IsMet ready next (new ++ (last ∷ [])) (next k.at pid)) (same_Some n m (sym there ∙ m_there))
               (subst (λ (s : S). IsMet ready next (new ++ (last ∷ [])) s) leads (met_last new last)));
         }
+
+    -- a turn to a state that stands at a place
+    pub grows_one : (count pid target : ℕ) (mid new : List (Node S)) (n last : Node S) → slice_get old place ≡ Some n → slice_get pids count ≡ Some pid
+        → IsIn (ready n.at) pid → last.at ≡ next n.at pid → last.from ≡ place → last.by ≡ pid → Stands ready next mid last new target
+        → Grows ready next old place pids count mid → Grows ready next old place pids (count + 1) new
+    grows_one count pid target mid new n last there is is_in leads from by at grows = elim at.is [
+      | inl same ↦ subst (Grows ready next old place pids (count + 1)) (sym same)
+          (grows_same count pid mid n there is (subst (λ (x : List (Node S)). IsMet ready next x (next n.at pid)) same met) grows)
+      | inr more ↦ subst (Grows ready next old place pids (count + 1)) (sym more) (grows_push count pid mid n last there is is_in leads from by grows)
+    ]
+      where
+        met : IsMet ready next new (next n.at pid)
+        met = record { place = target; node = at.stands.node; there = at.stands.there; is = at.stands.is ∙ leads }
 
     pub grows_extends : (count : ℕ) (new : List (Node S)) → Grows ready next old place pids count new → Extends old new
     grows_extends count new grows = (grows.more, grows.items)

@@ -3,7 +3,13 @@ pub mod Filtered
 pub mod ReadyProcess
 pub mod Growing
 pub mod Leading
+pub mod Hearing
+pub mod Marking
+pub mod Edging
+pub mod Taking
+pub mod Ending
 pub mod Reduced
+pub mod Endless
 pub mod Beside
 pub mod BesideCalls
 pub mod BesideSteps

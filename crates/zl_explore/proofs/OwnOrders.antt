@@ -1,5 +1,5 @@
 -- Orders of own turns of a still world, and the states that reduced turns meet.
-use Rattle.zl_code.proofs.Common.{Bool, Library, List, Some, [], ap, false, none-some, refl, slice_get, subst, sym, true, ℕ, ◌∙◌, ◌∷◌, ◌≡◌}
+use Rattle.zl_code.proofs.Common.{Library, List, Some, [], ap, none-some, refl, slice_get, subst, sym, true, ℕ, ◌∙◌, ◌∷◌, ◌≡◌}
 use Rattle.zl_code.specs.declared.history.TraceItem.{TraceItem}
 use Rattle.zl_code.specs.Own.{OwnWorld}
 use Rattle.zl_code.specs.OwnHistory.{tells_run}
@@ -11,6 +11,10 @@ use Rattle.zl_explore.specs.Paths.{IsIn, IsPath, after}
 use Rattle.zl_explore.specs.Private.{IsLocal, IsStill, RestsStill, Tells}
 use Rattle.zl_explore.specs.Reduced.{Ahead, IsReduced}
 use Rattle.zl_explore.specs.Running.{ready_of, rested_machine, turned}
+use Rattle.zl_explore.specs.Searching.{CanEnd}
+use Rattle.zl_explore.proofs.Ending.{Ends}
+use Rattle.zl_explore.proofs.Endless.{endless_met}
+use Rattle.zl_explore.proofs.Machines.{ends_own}
 use Rattle.zl_explore.proofs.Private.{local_turns, rested_step, rests_behind, rests_start, steps_in, tells_still}
 use Rattle.zl_explore.proofs.Reduced.{meets}
 use Rattle.zl_explore.proofs.Turns.{ready_same}
@@ -44,9 +48,19 @@ module _ (m : Machine) (still : IsStill (own_here m)) (reduced : Machine → ℕ
       ends : Machine → Type 0
       ends u = (own_here u ≡ own_rested o) × (ready_of u ≡ [])
 
+  -- where it leads to a world from which none lead to an end, a state was met from which no turns do
+  pub endless_own : (CanEnd m.programs o → ⊥) → (u : Machine) × met u × (Ends ready_of turned u → ⊥)
+  endless_own never =
+      let along = own_along m.programs (λ u. Ends ready_of turned u → ⊥) o none turns (rested_machine m) (rests_start m still) refl leads in
+      endless_met ready_of turned RestsStill IsLocal local_turns reduced is_reduced (rested_machine m) t (rests_start m still) begins met closed is_met
+      turns along.0 along.1
+    where
+      none : (u : Machine) → IsStill o → u.programs ≡ m.programs → own_here u ≡ own_rested o → Ends ready_of turned u → ⊥
+      none u still_o programs here ends = never (subst (λ lib. CanEnd lib o) programs (ends_own u o still_o.order here ends))
+
   -- and an item that some own turn has behind them, a turn has of a state that was met
-  pub tells_met : (passes : TraceItem → Bool) → ((x : TraceItem) → tells_run x ≡ true → passes x ≡ false) → (p : ℕ) (o2 : OwnWorld) (x : TraceItem)
-      → own_step m.programs o p ≡ Some (o2, x) → passes x ≡ true → (u : Machine) × met u × Tells passes u
+  pub tells_met : (passes : TraceItem → Type 0) → ((x : TraceItem) → tells_run x ≡ true → passes x → ⊥) → (p : ℕ) (o2 : OwnWorld) (x : TraceItem)
+      → own_step m.programs o p ≡ Some (o2, x) → passes x → (u : Machine) × met u × Tells passes u
   tells_met passes fails p o2 x step is =
       let along = own_along m.programs (Tells passes) o told turns (rested_machine m) (rests_start m still) refl leads in
       meets ready_of turned RestsStill IsLocal local_turns reduced is_reduced (rested_machine m) t (rests_start m still) begins met closed is_met
@@ -54,5 +68,7 @@ module _ (m : Machine) (still : IsStill (own_here m)) (reduced : Machine → ℕ
     where
       told : (u : Machine) → IsStill o → u.programs ≡ m.programs → own_here u ≡ own_rested o → Tells passes u
       told u still_o programs here =
-          let rest = rested_step u (record { own = o; still = still_o; is = here }) p o2 x (ap (λ lib. own_step lib o p) programs ∙ step) in
-          record { pid = p; to = rest.0; told = x; step = rest.1; is = is }
+          let rests : RestsStill u = record { own = o; still = still_o; is = here } in
+          let step_here = ap (λ lib. own_step lib o p) programs ∙ step in
+          let rest = rested_step u rests p o2 x step_here in
+          record { pid = p; is_ready = steps_in u rests p o2 x step_here; to = rest.0; told = x; step = rest.1; is = is }

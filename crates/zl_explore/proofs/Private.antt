@@ -1,6 +1,6 @@
 -- Local instructions are private turns of a running world that rests.
 use Rattle.zl_code.proofs.OwnSteps.{own_step_there}
-use Rattle.zl_code.proofs.Common.{Bool, None, Option, Some, [], ap, cases_Bool, eq-eqb, eqb-true, false, false≢true, inl, inr, is_process, is_ready}
+use Rattle.zl_code.proofs.Common.{None, Option, Some, [], ap, cases_Bool, eq-eqb, eqb-true, false, false≢true, inl, inr, is_process, is_ready}
 use Rattle.zl_code.proofs.Common.{is_some, refl, same_Some, subst, sym, true, ℕ, ◌==◌, ◌∙◌, ◌∷◌, ◌≡◌, ◌⊎◌}
 use Rattle.zl_code.specs.declared.history.TraceItem.{TraceItem}
 use Rattle.zl_code.specs.declared.history.TraceItem.TheVariants as item
@@ -108,6 +108,9 @@ module _ (s : Machine) (rests : RestsStill s) (p q : ℕ) (moves : MovesOn s.pro
   second : own_step s.programs (own_with f rests.own) q ≡ Some (own_with f to, tells)
   second = other_step s.programs rests.own rests.still p moves q different to tells step
 
+  ready_still : IsIn (ready_of (turned s p)) q
+  ready_still = steps_in (turned s p) rests_first q (own_with f to) tells second
+
   told_still : (behind : OwnWorld) × (own_step s.programs (own_here (turned s p)) q ≡ Some (behind, tells))
   told_still = rested_step (turned s p) rests_first q (own_with f to) tells second
 
@@ -120,11 +123,11 @@ module _ (s : Machine) (rests : RestsStill s) (p q : ℕ) (moves : MovesOn s.pro
         let rests_second = rests_behind s rests q to tells step in inl (record {
           p_ready = steps_in (turned s q) rests_second p (own_with f to) (item.Run p 1) later;
           p_private = local_here (turned s q) rests_second p (own_with f to) later;
-          q_ready = steps_in (turned s p) rests_first q (own_with f to) tells second;
+          q_ready = ready_still;
           same = same_machine _ _ refl (both ∙ sym (turn_is (turned s q) rests_second p (own_with f to) (item.Run p 1) later));
         })
     | inr over ↦ inr (record {
-      q_ready = steps_in (turned s p) rests_first q (own_with f to) tells second;
+      q_ready = ready_still;
       same = same_machine _ _ refl (both ∙ (over ∙ sym (turn_is s rests q to tells step)));
     })
   ]
@@ -143,19 +146,24 @@ local_turns = record {
 }
 
 -- an item that no local instruction has is told all the same behind one
-pub tells_still : (passes : TraceItem → Bool) → ((x : TraceItem) → tells_run x ≡ true → passes x ≡ false)
+pub tells_still : (passes : TraceItem → Type 0) → ((x : TraceItem) → tells_run x ≡ true → passes x → ⊥)
     → IsSteady ready_of turned RestsStill IsLocal (Tells passes)
 unfolding is_local
 tells_still passes fails s p rests is_in local tells =
-    let has = step_of s rests tells.pid (ready_by s rests tells.pid (tells.to, tells.told) tells.step) in
+    let has = step_of s rests tells.pid tells.is_ready in
     let same = same_Some _ _ (sym (rested_step s rests tells.pid has.to has.tells has.step).1 ∙ tells.step) in
-    let still = told_still s rests p tells.pid (moves_here s rests p is_in local) different has.to has.tells has.step in
-    record { pid = tells.pid; to = still.0; told = has.tells; step = still.1; is = ap passes (λ i. (same i).1) ∙ tells.is }
+    let moves = moves_here s rests p is_in local in
+    let still = told_still s rests p tells.pid moves different has.to has.tells has.step in record {
+      pid = tells.pid;
+      is_ready = ready_still s rests p tells.pid moves different has.to has.tells has.step;
+      to = still.0;
+      told = has.tells;
+      step = still.1;
+      is = subst passes (λ i. (sym same i).1) tells.is;
+    }
   where
     different : tells.pid ≡ p → ⊥
-    different here =
-        let runs : tells_run tells.told ≡ true = ap runs_alone (sym tells.step ∙ ap (own_step s.programs (own_here s)) here) ∙ local in
-        false≢true (sym (fails tells.told runs) ∙ tells.is)
+    different here = fails tells.told (ap runs_alone (sym tells.step ∙ ap (own_step s.programs (own_here s)) here) ∙ local) tells.is
 
 -- what counts of a still world rests
 abbrev pub rests_start : (m : Machine) → IsStill (own_here m) → RestsStill (rested_machine m)

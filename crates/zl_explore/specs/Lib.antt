@@ -3,7 +3,11 @@ pub mod Ordered
 pub mod Orders
 pub mod Running
 pub mod Paths
+pub mod Bad
 pub mod Nodes
+pub mod Quiet
+pub mod Edges
+pub mod Marks
 pub mod Reduced
 pub mod GoesAhead
 pub mod Private

@@ -1,5 +1,5 @@
 -- The states that were met, each with the one that it was met from.
-use Rattle.std.specs.Prelude.{ℕ, ◌≡◌, ◌<◌, List, ◌++◌, Some, slice_get}
+use Rattle.std.specs.Prelude.{ℕ, ◌≡◌, ◌<◌, ◌⊎◌, List, [], ◌∷◌, ◌++◌, Some, slice_get}
 use Rattle.zl_explore.specs.Paths.{IsIn, IsPath, after}
 use Rattle.zl_explore.specs.declared.search.Node.{Node}
 
@@ -8,6 +8,17 @@ abbrev pub Extends : {X : Type 0} → (old new : List X) → Type 0
 Extends {X} old new = (more : List X) × (new ≡ old ++ more)
 
 module _ {S : Type 0} (ready : S → List ℕ) (next : S → ℕ → S) where
+  -- the state stands at the place
+  pub record StandsAt (nodes : List (Node S)) (place : ℕ) (s : S) : Type 0 where
+    pub node : Node S
+    pub there : slice_get nodes place ≡ Some node
+    pub is : node.at ≡ s
+
+  -- the state of the node stands at the place; it was there, or comes behind the others
+  pub record Stands (old : List (Node S)) (n : Node S) (new : List (Node S)) (place : ℕ) : Type 0 where
+    pub is : (new ≡ old) ⊎ (new ≡ old ++ (n ∷ []))
+    pub stands : StandsAt new place n.at
+
   -- the state was met
   pub record IsMet (nodes : List (Node S)) (s : S) : Type 0 where
     pub place : ℕ

@@ -10,6 +10,8 @@ use Rattle.zl_code.specs.Steps.{Moves, Next}
 use Rattle.zl_calls.specs.Rested.{own_rested}
 use Rattle.zl_calls.specs.World.{Machine, own_here}
 use Rattle.zl_explore.specs.Ordered.{IsOrdered}
+use Rattle.zl_explore.specs.Paths.{IsIn}
+use Rattle.zl_explore.specs.Running.{ready_of}
 
 -- A world behind all that follows a step, as each own step leaves it.
 pub record IsStill (o : OwnWorld) : Type 0 where
@@ -42,10 +44,11 @@ moves_now _ = false
 abbrev pub IsLocal : Machine → ℕ → Type 0
 IsLocal m p = IsTrue (is_local m p)
 
--- a process is ready whose own step has an item that passes
-pub record Tells (passes : TraceItem → Bool) (m : Machine) : Type 0 where
+-- a process is ready whose own step has such an item
+pub record Tells (passes : TraceItem → Type 0) (m : Machine) : Type 0 where
   pub pid : ℕ
+  pub is_ready : IsIn (ready_of m) pid
   pub to : OwnWorld
   pub told : TraceItem
   pub step : own_step m.programs (own_here m) pid ≡ Some (to, told)
-  pub is : IsTrue (passes told)
+  pub is : passes told

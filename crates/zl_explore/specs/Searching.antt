@@ -1,12 +1,16 @@
 -- What is told of all orders of turns of a running world.
-use Rattle.std.specs.Prelude.{ℕ, ◌≡◌, List, []}
+use Rattle.std.specs.Prelude.{ℕ, ◌≡◌, List, [], ◌∷◌, ◌++◌, Some}
 use Rattle.zl_code.specs.declared.history.ProcState.{ProcState}
+use Rattle.zl_code.specs.declared.history.TraceItem.{TraceItem}
 use Rattle.zl_code.specs.Image.{Library}
 use Rattle.zl_code.specs.Own.{OwnWorld}
+use Rattle.zl_code.specs.OwnSteps.{own_step}
 use Rattle.zl_calls.specs.World.{Machine}
+use Rattle.zl_explore.specs.Bad.{Fits}
 use Rattle.zl_explore.specs.Orders.{OwnTurns, ready_in, told_in}
 use Rattle.zl_explore.specs.Paths.{IsIn}
 use Rattle.zl_explore.specs.Running.{rested_machine}
+use Rattle.zl_explore.specs.declared.bad.Bad.{Bad}
 
 -- what each process is in, by koid
 abbrev pub States : Type 0
@@ -23,10 +27,42 @@ pub record IsEnd (lib : Library) (o : OwnWorld) (turns : List ℕ) (states : Sta
 abbrev pub AreAll : Library → OwnWorld → List States → Type 0
 AreAll lib o ends = (turns : List ℕ) (last : OwnWorld) → OwnTurns lib o turns last → ready_in last ≡ [] → IsIn ends (told_in last)
 
--- a search: what counts of the world that it began with, the states of the ends that it told, and how many worlds it may still go on from
+-- own steps of these processes, one after another, of which the last one has an item that the pattern names
+pub record IsBadOrder (lib : Library) (o : OwnWorld) (turns : List ℕ) (b : Bad) : Type 0 where
+  pub before : List ℕ
+  pub pid : ℕ
+  pub are : turns ≡ before ++ (pid ∷ [])
+  pub last : OwnWorld
+  pub leads : OwnTurns lib o before last
+  pub behind : OwnWorld
+  pub told : TraceItem
+  pub step : own_step lib last pid ≡ Some (behind, told)
+  pub fits : Fits b told
+
+-- no order of own steps, of any length, has an item that a pattern names
+abbrev pub HasNone : Library → OwnWorld → List Bad → Type 0
+HasNone lib o bad = (turns : List ℕ) (b : Bad) → IsIn bad b → IsBadOrder lib o turns b → ⊥
+
+-- further own steps lead from the world to one in which nobody is ready
+pub record CanEnd (lib : Library) (o : OwnWorld) : Type 0 where
+  pub turns : List ℕ
+  pub last : OwnWorld
+  pub leads : OwnTurns lib o turns last
+  pub nobody : ready_in last ≡ []
+
+-- own steps lead to a world from which none lead to an end
+pub record IsEndless (lib : Library) (o : OwnWorld) : Type 0 where
+  pub turns : List ℕ
+  pub last : OwnWorld
+  pub leads : OwnTurns lib o turns last
+  pub never : CanEnd lib last → ⊥
+
+-- a search: what counts of the world that it began with, the states of the ends that it told, what no order may have, and how many worlds
+-- it may still go on from
 pub record Search : Type 0 where
   pub root : Machine
   pub told : List States
+  pub bad : List Bad
   pub left : ℕ
 
 -- it began with the world

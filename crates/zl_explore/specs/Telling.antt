@@ -1,8 +1,10 @@
 -- What a search tells as it goes on.
-use Rattle.std.specs.Prelude.{ℕ, ◌≡◌, ◌<◌, List, [], ◌∷◌, ◌++◌, Option, Some}
+use Rattle.std.specs.Prelude.{ℕ, true, false, ◌≡◌, ◌<◌, List, [], ◌∷◌, ◌++◌, Option, Some}
 use Rattle.zl_calls.specs.World.{Machine, own_here}
+use Rattle.zl_explore.specs.Paths.{IsIn}
 use Rattle.zl_explore.specs.Private.{IsStill}
-use Rattle.zl_explore.specs.Searching.{AreAll, BeganWith, IsEnd, Search, States}
+use Rattle.zl_explore.specs.Searching.{AreAll, BeganWith, HasNone, IsBadOrder, IsEnd, IsEndless, Search, States}
+use Rattle.zl_explore.specs.declared.bad.Bad.{Bad}
 use Rattle.zl_explore.specs.declared.ends.Next.{Next}
 use Rattle.zl_explore.specs.declared.ends.Next.TheVariants as next
 
@@ -11,9 +13,15 @@ abbrev pub Tells : Option Next → (old new : List States) → Type 0
 Tells (Some (next.End e)) old new = new ≡ old ++ (e.states.items ∷ [])
 Tells _ old new = new ≡ old
 
--- the turns of the end lead to it from the world that the search began with
+-- the pattern is one of the search, and names the item of the last of these turns from the world that it began with
+pub record LeadsToBad (s : Search) (turns : List ℕ) (b : Bad) : Type 0 where
+  pub is_in : IsIn s.bad b
+  pub leads : (m : Machine) → IsStill (own_here m) → BeganWith m s → IsBadOrder m.programs (own_here m) turns b
+
+-- the turns of the end lead to it from the world that the search began with, and so do those of a bad one
 abbrev pub Leads : Option Next → Search → Type 0
 Leads (Some (next.End e)) s = (m : Machine) → IsStill (own_here m) → BeganWith m s → IsEnd m.programs (own_here m) e.turns.items e.states.items
+Leads (Some (next.Bad b)) s = LeadsToBad s b.turns.items b.bad
 Leads _ s = Unit {0}
 
 -- behind an end there are fewer worlds to go on from
@@ -23,5 +31,16 @@ Lessens _ old new = Unit {0}
 
 -- where it told all, every order from the world that it began with comes to one of those, if it comes to an end
 abbrev pub TellsAll : Next → Search → Type 0
-TellsAll next.All s = (m : Machine) → IsStill (own_here m) → BeganWith m s → AreAll m.programs (own_here m) s.told
+TellsAll (next.All endless) s = (m : Machine) → IsStill (own_here m) → BeganWith m s → AreAll m.programs (own_here m) s.told
 TellsAll _ s = Unit {0}
+
+-- and none has an item that a pattern names
+abbrev pub TellsNone : Next → Search → Type 0
+TellsNone (next.All endless) s = (m : Machine) → IsStill (own_here m) → BeganWith m s → HasNone m.programs (own_here m) s.bad
+TellsNone _ s = Unit {0}
+
+-- it says whether own steps lead to a world from which none lead to an end
+abbrev pub TellsEndless : Next → Search → Type 0
+TellsEndless (next.All true) s = (m : Machine) → IsStill (own_here m) → BeganWith m s → IsEndless m.programs (own_here m)
+TellsEndless (next.All false) s = (m : Machine) → IsStill (own_here m) → BeganWith m s → IsEndless m.programs (own_here m) → ⊥
+TellsEndless _ s = Unit {0}

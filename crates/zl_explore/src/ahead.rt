@@ -4,11 +4,11 @@ ghost use Rattle.std.specs.Prelude.{◌≡◌, ◌++◌, replicate, IfOk, OnOk};
 ghost use Rattle.zl_calls.specs.World.{own_here};
 ghost use Rattle.zl_explore.specs.GoingAhead.{Takes, ahead, ahead_all, going, reduced, start_of};
 ghost use Rattle.zl_explore.specs.Private.{IsStill};
-ghost use Rattle.zl_explore.specs.Running.{rested_machine, turned};
+ghost use Rattle.zl_explore.specs.Running.{rested_machine, told_at, turned};
 
 use crate::running::{is_ready, push_if, ready_pids, wants_memory};
 use std::alloc::{AllocError, Global};
-use zl_calls::World;
+use zl_calls::{TraceItem, World};
 use zl_interp::burst;
 use zl_rights::Pid;
 
@@ -17,25 +17,26 @@ const MOST: u32 = 10_000;
 
 /// Takes a turn of the process: its own step, behind which it goes ahead by its local instructions, and
 /// so do those that became ready. Whose instructions these are comes behind the others that are given.
-/// Where memory is refused, or a call wanted it, the world is any.
+/// Answers what is told of the own step. Where memory is refused, or a call wanted it, the world is any.
 pub fn take_turn(
     alloc: Global,
     world: &mut World,
     pid: Pid,
     taken: &mut Vec<Pid>,
-) -> Result<(), AllocError>
+) -> Result<Option<TraceItem>, AllocError>
     requires { IsStill (own_here world.old) }
     ensures still { OnOk result (IsStill (own_here world.new)) }
     ensures next { OnOk result (rested_machine world.new ≡ reduced (rested_machine world.old) pid) }
+    ensures told { IfOk result (λ told. told ≡ told_at (rested_machine world.old) pid) }
     ensures taken { OnOk result (Takes (rested_machine world.old) taken.old.items taken.new.items
         (rested_machine world.new)) }
 {
     let before = ready_pids(alloc, world)?;
-    step(world, pid, taken)?;
+    let told = step(world, pid, taken)?;
     let behind = ready_pids(alloc, world)?;
     let going = going(alloc, &before, &behind, pid)?;
     all_go_ahead(world, &going, taken)?;
-    Ok(())
+    Ok(told)
 }
 
 /// All who are ready go ahead. Where memory is refused, the world is any.
@@ -51,23 +52,24 @@ pub fn begin(alloc: Global, world: &mut World, taken: &mut Vec<Pid>) -> Result<(
     Ok(())
 }
 
-/// Does the own step of the process, if it has one.
-fn step(world: &mut World, pid: Pid, taken: &mut Vec<Pid>) -> Result<(), AllocError>
+/// Does the own step of the process, if it has one, and answers what is told of it.
+fn step(world: &mut World, pid: Pid, taken: &mut Vec<Pid>) -> Result<Option<TraceItem>, AllocError>
     requires { IsStill (own_here world.old) }
     ensures still { OnOk result (IsStill (own_here world.new)) }
     ensures next { OnOk result (rested_machine world.new ≡ turned (rested_machine world.old) pid) }
+    ensures told { IfOk result (λ told. told ≡ told_at (rested_machine world.old) pid) }
     ensures taken { OnOk result (Takes (rested_machine world.old) taken.old.items taken.new.items
         (rested_machine world.new)) }
 {
     let Some((item, told)) = world.step(pid) else {
-        return Ok(());
+        return Ok(None);
     };
     world.put_back(told);
     if wants_memory(&item) {
         return Err(AllocError);
     }
     taken.push(pid)?;
-    Ok(())
+    Ok(Some(item))
 }
 
 /// Of those who are ready behind a turn of the process, itself and who wasn't ready before.

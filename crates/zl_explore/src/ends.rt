@@ -4,6 +4,7 @@ ghost use Rattle.std.specs.Prelude.{◌≡◌, IfOk, IsTrue};
 ghost use Rattle.zl_calls.specs.World.{own_here};
 ghost use Rattle.zl_explore.specs.Orders.{told_in};
 
+use crate::bad::Bad;
 use std::alloc::{AllocError, Global};
 use zl_calls::World;
 use zl_code::ProcState;
@@ -18,13 +19,27 @@ pub struct End {
     pub turns: Vec<Pid>,
 }
 
+/// Where an order has an item that a pattern names.
+#[derive(Drop)]
+pub struct BadTurn {
+    /// Whose turns lead there, in their order; the last one has the item.
+    pub turns: Vec<Pid>,
+    /// The pattern.
+    pub bad: Bad,
+}
+
 /// How a search goes on.
 #[derive(Drop)]
 pub enum Next {
     /// An order comes to an end with other states than those told before.
     End(End),
-    /// There is no other end, whatever the order.
-    All,
+    /// An order has an item that may not be.
+    Bad(BadTurn),
+    /// There is no other end, whatever the order, and no item that may not be.
+    All {
+        /// Whether an order leads to where none comes to an end any more.
+        endless: bool,
+    },
     /// There would be more worlds than there may be.
     Cut,
     /// Memory was refused, or a call wanted it.

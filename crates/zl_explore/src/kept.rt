@@ -1,19 +1,22 @@
 //! What a search keeps, and how it goes on.
 
-ghost use Rattle.std.specs.Prelude.{◌≡◌, ◌++◌, ◌∷◌, ◌<◌, [], length, map, IfOk, IsTrue, OnErr, OnOk, Some};
+ghost use Rattle.std.specs.Prelude.{◌≡◌, ◌++◌, ◌∷◌, ◌<◌, ◌≤◌, [], length, map, IfOk, IsTrue, OnErr, OnOk, Some};
 ghost use Rattle.zl_calls.specs.World.{own_here};
 ghost use Rattle.zl_explore.specs.GoingAhead.{Takes, reduced, start_of};
 ghost use Rattle.zl_explore.specs.Private.{IsStill};
-ghost use Rattle.zl_explore.specs.Running.{ready_of, rested_machine};
+ghost use Rattle.zl_explore.specs.Running.{ready_of, rested_machine, told_at};
 ghost use Rattle.zl_explore.specs.Paths.{IsIn, after};
-ghost use Rattle.zl_explore.specs.Kept.{Goes, IsEndAt, IsWhole, search_of, told_of};
-ghost use Rattle.zl_explore.specs.Telling.{Leads, Lessens, Tells, TellsAll};
+ghost use Rattle.zl_explore.specs.Kept.{Goes, IsBadOrMemory, IsEndAt, IsNoEnd, IsWhole, search_of, told_of};
+ghost use Rattle.zl_explore.specs.Quiet.{IsBadTurnAt};
+ghost use Rattle.zl_explore.specs.Telling.{Leads, Lessens, Tells, TellsAll, TellsEndless, TellsNone};
 
-use crate::ends::{End, Next, are_same, digest_of};
+use crate::bad::Bad;
+use crate::edges::endless_place;
+use crate::ends::{BadTurn, End, Next, are_same, digest_of};
 use crate::machine::Machine;
 use crate::places::Places;
 use crate::running::Running;
-use crate::search::{Course, Node, turns_to, widen};
+use crate::search::{Course, Node, Widened, turns_to, widen};
 use std::alloc::{AllocError, Global};
 use zl_calls::World;
 use zl_code::ProcState;
@@ -27,6 +30,8 @@ pub struct Kept {
     pub root: Running,
     pub nodes: Vec<Node<Running>>,
     pub course: Course,
+    /// What no order may have.
+    pub bad: Vec<Bad>,
     /// How many worlds there may be.
     pub most: usize,
     /// So many of the first worlds were gone on from or, where they are ends, told.
@@ -39,11 +44,12 @@ pub struct Kept {
 
 impl Kept {
     /// The world alone.
-    pub fn new(alloc: Global, world: World, most: usize) -> Result<Kept, AllocError>
+    pub fn new(alloc: Global, world: World, bad: Vec<Bad>, most: usize) -> Result<Kept, AllocError>
         requires { IsStill (own_here world) }
         ensures whole { IfOk result IsWhole }
         ensures root { IfOk result (λ kept. kept.root ≡ rested_machine world) }
         ensures told { IfOk result (λ kept. told_of kept ≡ []) }
+        ensures bad { IfOk result (λ kept. kept.bad ≡ bad) }
         ensures left { IfOk result (λ kept. (search_of kept).left ≡ most) }
     {
         let root = Running::new(alloc, world);
@@ -60,7 +66,12 @@ impl Kept {
             alloc,
             root,
             nodes,
-            course: Course { places, turns: 0 },
+            course: Course {
+                places,
+                turns: 0,
+                edges: Vec::new(alloc),
+            },
+            bad,
             most,
             widened: 0,
             told: Vec::new(alloc),
@@ -68,19 +79,22 @@ impl Kept {
         })
     }
 
-    /// Goes on until there is an end that wasn't told, or no more to go on from.
+    /// Goes on until there is an end that wasn't told, an item that may not be, or no more to go on from.
     pub fn next_end(&mut self) -> Next
         requires { IsWhole self.old }
         ensures whole { IsWhole self.new }
         ensures root { self.new.root ≡ self.old.root }
+        ensures bad { self.new.bad ≡ self.old.bad }
         ensures told { Tells (Some result) (told_of self.old) (told_of self.new) }
         ensures leads { Leads (Some result) (search_of self.old) }
         ensures left { Lessens result (search_of self.old).left (search_of self.new).left }
         ensures all { TellsAll result (search_of self.new) }
+        ensures none { TellsNone result (search_of self.new) }
+        ensures endless { TellsEndless result (search_of self.new) }
     {
         for _ in self.widened..self.most {
             if self.widened >= self.nodes.len() {
-                return Next::All;
+                return self.all();
             }
             if let Some(next) = self.widen_one() {
                 return next;
@@ -89,7 +103,25 @@ impl Kept {
         if self.widened < self.nodes.len() {
             return Next::Cut;
         }
-        Next::All
+        self.all()
+    }
+
+    /// Tells that all is known, as it is once all worlds were gone on from.
+    fn all(&self) -> Next
+        requires whole { IsWhole self.now }
+        requires enough { length self.now.nodes.items ≤ self.now.widened }
+        ensures end { IsNoEnd result }
+        ensures leads { Leads (Some result) (search_of self.now) }
+        ensures all { TellsAll result (search_of self.now) }
+        ensures none { TellsNone result (search_of self.now) }
+        ensures endless { TellsEndless result (search_of self.now) }
+    {
+        match endless_place(self.alloc, &self.course.edges, self.nodes.len()) {
+            Ok(place) => Next::All {
+                endless: place.is_some(),
+            },
+            Err(_) => Next::Memory,
+        }
     }
 
     /// Goes on from the next world. Nothing where that is no end that wasn't told.
@@ -105,13 +137,41 @@ impl Kept {
             return self.end_here();
         }
         let (place, most) = (self.widened, self.most);
-        match widen(&mut self.nodes, &mut self.course, place, &pids, most) {
-            Ok(true) => {
+        match widen(
+            &mut self.nodes,
+            &mut self.course,
+            place,
+            &pids,
+            &self.bad,
+            most,
+        ) {
+            Ok(Widened::All) => {
                 self.widened += 1;
                 None
             }
-            Ok(false) => Some(Next::Cut),
+            Ok(Widened::Full) => Some(Next::Cut),
+            Ok(Widened::Bad(pid, bad)) => Some(self.bad_turn(pid, bad)),
             Err(_) => Some(Next::Memory),
+        }
+    }
+
+    /// Tells of the turn of the process in the next world, whose item the pattern names.
+    fn bad_turn(&self, pid: Pid, bad: Bad) -> Next
+        requires whole { IsWhole self.now }
+        requires names { IsBadTurnAt ready_of told_at self.now.bad.items self.now.nodes.items
+            self.now.widened pid bad }
+        ensures which { IsBadOrMemory result }
+        ensures leads { Leads (Some result) (search_of self.now) }
+    {
+        let Ok(turns) = turns_to(self.alloc, &self.nodes, self.widened) else {
+            return Next::Memory;
+        };
+        let Ok(mut turns) = taken_by(self.alloc, &self.root, &turns) else {
+            return Next::Memory;
+        };
+        match turns.push(pid) {
+            Ok(()) => Next::Bad(BadTurn { turns, bad }),
+            Err(_) => Next::Memory,
         }
     }
 
@@ -150,6 +210,8 @@ impl Kept {
         ensures nodes { self.new.nodes ≡ self.old.nodes }
         ensures widened { self.new.widened ≡ self.old.widened }
         ensures most { self.new.most ≡ self.old.most }
+        ensures bad { self.new.bad ≡ self.old.bad }
+        ensures course { self.new.course ≡ self.old.course }
     {
         let kept = states.to_vec(self.alloc)?;
         self.told_places.push(digest)?;
@@ -166,7 +228,7 @@ fn taken_by(alloc: Global, root: &Running, turns: &[Pid]) -> Result<Vec<Pid>, Al
     let mut taken = Vec::new(alloc);
     let mut at = root.copy()?.begin(&mut taken)?;
     for pid in turns {
-        at = at.take_turn(*pid, &mut taken)?;
+        at = at.take_turn(*pid, &mut taken)?.0;
     }
     Ok(taken)
 }

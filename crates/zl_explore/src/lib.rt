@@ -7,6 +7,8 @@
 #![tactic(auto)]
 
 mod ahead;
+mod bad;
+mod edges;
 mod ends;
 mod kept;
 mod machine;
@@ -15,5 +17,6 @@ mod places;
 mod running;
 mod search;
 
-pub use ends::{End, Next};
+pub use bad::{Bad, What, named_end, read_bad};
+pub use ends::{BadTurn, End, Next};
 pub use orders::Search;

@@ -1,8 +1,10 @@
 //! What is explored.
 
-ghost use Rattle.std.specs.Prelude.{ℕ, ◌≡◌, List, IfOk, IsTrue};
+ghost use Rattle.std.specs.Prelude.{ℕ, ◌≡◌, List, Option, IfOk, IsTrue};
+ghost use Rattle.zl_code.specs.declared.history.TraceItem.{TraceItem as Item};
 
 use std::alloc::AllocError;
+use zl_code::TraceItem;
 use zl_rights::Pid;
 
 /// A machine of processes, of which each turn has one outcome.
@@ -13,6 +15,9 @@ pub trait Machine: Drop {
     /// What a turn of a process does.
     ghost next: { Self → ℕ → Self };
 
+    /// What is told of a turn of a process.
+    ghost tells: { Self → ℕ → Option Item };
+
     /// The processes that can go.
     fn ready(&self) -> Result<Vec<Pid>, AllocError>
         ensures { IfOk result (λ pids. pids.items ≡ ready self.now) };
@@ -21,9 +26,10 @@ pub trait Machine: Drop {
     fn copy(&self) -> Result<Self, AllocError>
         ensures { IfOk result (λ other. other ≡ self.now) };
 
-    /// The machine behind a turn of the process.
-    fn turn(self, pid: Pid) -> Result<Self, AllocError>
-        ensures { IfOk result (λ behind. behind ≡ next self pid) };
+    /// The machine behind a turn of the process, and what is told of the turn.
+    fn turn(self, pid: Pid) -> Result<(Self, Option<TraceItem>), AllocError>
+        ensures next { IfOk result (λ behind. behind.0 ≡ next self pid) }
+        ensures told { IfOk result (λ behind. behind.1 ≡ tells self pid) };
 
     /// Whether the other is the same. It may say no of the same, at the cost of time.
     fn is_same(&self, other: &Self) -> bool

@@ -1,11 +1,12 @@
 //! All orders of turns of a running world.
 
-ghost use Rattle.std.specs.Prelude.{◌≡◌, [], IfOk, Some};
+ghost use Rattle.std.specs.Prelude.{◌≡◌, [], length, IfOk, Some};
 ghost use Rattle.zl_calls.specs.World.{own_here};
 ghost use Rattle.zl_explore.specs.Private.{IsStill};
 ghost use Rattle.zl_explore.specs.Searching.{BeganWith};
-ghost use Rattle.zl_explore.specs.Telling.{Leads, Lessens, Tells, TellsAll};
+ghost use Rattle.zl_explore.specs.Telling.{Leads, Lessens, Tells, TellsAll, TellsEndless, TellsNone};
 
+use crate::bad::Bad;
 use crate::ends::Next;
 use crate::kept::Kept;
 use std::alloc::{AllocError, Global};
@@ -13,7 +14,7 @@ use std::marker::Model;
 use zl_calls::World;
 
 /// A search over all orders of the turns of a running world: to which states they come where nobody is
-/// ready. It goes up to the next call at each turn, since nobody else can tell when a process does its
+/// ready, and whether one has an item that may not be. It goes up to the next call at each turn, since nobody else can tell when a process does its
 /// local instructions.
 ///
 /// Source: own profile.
@@ -34,31 +35,44 @@ impl Model for Search {
 }
 
 impl Search {
-    /// A search that begins with the world, and meets no more worlds than so many, of which 0 counts as 1.
+    /// A search that begins with the world, and meets no more worlds than so many, of which 0 counts as 1;
+    /// no order may have an item that one of the patterns names.
     /// The world has to be as boots and own steps leave one. Only memory can be refused.
-    pub fn new(alloc: Global, world: World, most: usize) -> Result<Search, AllocError>
+    pub fn new(
+        alloc: Global,
+        world: World,
+        bad: Vec<Bad>,
+        most: usize,
+    ) -> Result<Search, AllocError>
         requires { IsStill (own_here world) }
         ensures root { IfOk result (BeganWith world) }
         ensures told { IfOk result (λ search. search.told ≡ []) }
+        ensures bad { IfOk result (λ search. search.bad ≡ bad.items) }
         ensures left { IfOk result (λ search. search.left ≡ most) }
     {
         Ok(Search {
-            kept: Kept::new(alloc, world, most)?,
+            kept: Kept::new(alloc, world, bad, most)?,
         })
     }
 
-    /// Goes on to the next end with other states than those of all ends that were told.
+    /// Goes on to the next end with other states than those of all ends that were told, or to an item that
+    /// may not be.
     ///
     /// An end comes with turns by which the lab's own steps lead to it from the world where the search
-    /// began. `All` comes only where every order of turns, of any length, that comes to a world in which
-    /// nobody is ready comes to the states of an end that was told. Behind an end there is less to go on
+    /// began, and so does such an item, which is the last one's. `All` comes only where every order of
+    /// turns, of any length, that comes to a world in which nobody is ready comes to the states of an end
+    /// that was told, and none has an item that a pattern names; it says whether one leads to a world from
+    /// which none comes to an end any more. Behind an end there is less to go on
     /// from, so that the search ends.
     pub fn next_end(&mut self) -> Next
         ensures root { self.new.root ≡ self.old.root }
+        ensures bad { self.new.bad ≡ self.old.bad }
         ensures told { Tells (Some result) self.old.told self.new.told }
         ensures leads { Leads (Some result) self.old }
         ensures left { Lessens result self.old.left self.new.left }
         ensures all { TellsAll result self.new }
+        ensures none { TellsNone result self.new }
+        ensures endless { TellsEndless result self.new }
     {
         self.kept.next_end()
     }
@@ -74,7 +88,16 @@ impl Search {
     }
 
     /// How many ends were told.
-    pub fn ends(&self) -> usize {
+    pub fn ends(&self) -> usize
+        ensures { result ≡ length self.now.told }
+    {
         self.kept.told.len()
+    }
+
+    /// What no order may have.
+    pub fn bad(&self) -> &[Bad]
+        ensures { result.now ≡ self.now.bad }
+    {
+        &self.kept.bad
     }
 }

@@ -6,7 +6,7 @@ ghost use Rattle.zl_calls.specs.World.{is_ready_in, own_here};
 ghost use Rattle.zl_explore.specs.Orders.{one_if, ready_in, told_in};
 ghost use Rattle.zl_explore.specs.GoingAhead.{Takes, reduced, start_of};
 ghost use Rattle.zl_explore.specs.Private.{IsStill};
-ghost use Rattle.zl_explore.specs.Running.{ready_of, rested_machine};
+ghost use Rattle.zl_explore.specs.Running.{ready_of, rested_machine, told_at};
 
 use crate::ahead::{begin, take_turn};
 use crate::ends::{mixed, number_of, states_of};
@@ -53,13 +53,19 @@ impl Running {
 
     /// The machine behind a turn of the process, up to the next call. Whose instructions these are comes
     /// behind the others that are given.
-    pub fn take_turn(self, pid: Pid, taken: &mut Vec<Pid>) -> Result<Running, AllocError>
-        ensures next { IfOk result (λ behind. behind ≡ reduced self pid) }
-        ensures taken { IfOk result (Takes self taken.old.items taken.new.items) }
+    /// What is told of its own instruction comes with it.
+    pub fn take_turn(
+        self,
+        pid: Pid,
+        taken: &mut Vec<Pid>,
+    ) -> Result<(Running, Option<TraceItem>), AllocError>
+        ensures next { IfOk result (λ behind. behind.0 ≡ reduced self pid) }
+        ensures told { IfOk result (λ behind. behind.1 ≡ told_at self pid) }
+        ensures taken { IfOk result (λ behind. Takes self taken.old.items taken.new.items behind.0) }
     {
         let Running { alloc, mut world } = self;
-        take_turn(alloc, &mut world, pid, taken)?;
-        Ok(Running { alloc, world })
+        let told = take_turn(alloc, &mut world, pid, taken)?;
+        Ok((Running { alloc, world }, told))
     }
 
     /// The machine where all who are ready went ahead up to the next call.
@@ -78,6 +84,8 @@ impl Machine for Running {
 
     ghost next = { reduced };
 
+    ghost tells = { told_at };
+
     fn ready(&self) -> Result<Vec<Pid>, AllocError> {
         ready_pids(self.alloc, &self.world)
     }
@@ -89,7 +97,7 @@ impl Machine for Running {
         })
     }
 
-    fn turn(self, pid: Pid) -> Result<Running, AllocError> {
+    fn turn(self, pid: Pid) -> Result<(Running, Option<TraceItem>), AllocError> {
         let mut taken = Vec::new(self.alloc);
         self.take_turn(pid, &mut taken)
     }

@@ -10,7 +10,7 @@ use std::test::*;
 use zl_asm::assemble_bytes;
 use zl_calls::World;
 use zl_code::{Boot, Grant, Grants, ProcState, Statement};
-use zl_explore::{Next, Search};
+use zl_explore::{Bad, Next, Search, named_end, read_bad};
 use zl_interp::{Library, Program};
 use zl_rights::{Koid, Pid};
 
@@ -102,8 +102,8 @@ fn ends_of(search: &mut Search) -> (usize, bool) {
     for _ in 0..1_000 {
         match search.next_end() {
             Next::End(_) => ends = ends.saturating_add(1),
-            Next::All => return (ends, true),
-            Next::Cut | Next::Memory => return (ends, false),
+            Next::All { .. } => return (ends, true),
+            Next::Bad(_) | Next::Cut | Next::Memory => return (ends, false),
         }
     }
     (ends, false)
@@ -111,7 +111,7 @@ fn ends_of(search: &mut Search) -> (usize, bool) {
 
 #[test]
 fn freed_values_tell_worlds_apart(rt: HostRuntime) -> Result<(), Fail> {
-    let mut search = Search::new(rt.alloc(), world(rt.alloc())?, 1_000)?;
+    let mut search = Search::new(rt.alloc(), world(rt.alloc())?, Vec::new(rt.alloc()), 1_000)?;
     assert_eq!(rt; ends_of(&mut search), (2, true));
     assert_eq!(rt; search.worlds(), 98);
     assert_eq!(rt; search.turns(), 193);
@@ -120,7 +120,7 @@ fn freed_values_tell_worlds_apart(rt: HostRuntime) -> Result<(), Fail> {
 
 #[test]
 fn an_end_has_the_states_and_turns_that_lead_there(rt: HostRuntime) -> Result<(), Fail> {
-    let mut search = Search::new(rt.alloc(), world(rt.alloc())?, 1_000)?;
+    let mut search = Search::new(rt.alloc(), world(rt.alloc())?, Vec::new(rt.alloc()), 1_000)?;
     for _ in 0..2 {
         let Next::End(end) = search.next_end() else {
             return Err(Fail::from("there are two ends"));
@@ -148,9 +148,9 @@ fn code_of(state: ProcState) -> Option<i32> {
 
 #[test]
 fn a_search_is_cut_at_one_world_more(rt: HostRuntime) -> Result<(), Fail> {
-    let mut all = Search::new(rt.alloc(), world(rt.alloc())?, 98)?;
+    let mut all = Search::new(rt.alloc(), world(rt.alloc())?, Vec::new(rt.alloc()), 98)?;
     assert_eq!(rt; ends_of(&mut all), (2, true));
-    let mut cut = Search::new(rt.alloc(), world(rt.alloc())?, 97)?;
+    let mut cut = Search::new(rt.alloc(), world(rt.alloc())?, Vec::new(rt.alloc()), 97)?;
     let (_, is_all) = ends_of(&mut cut);
     assert!(rt; !is_all);
     assert_eq!(rt; cut.worlds(), 97);
@@ -182,5 +182,135 @@ fn a_copy_goes_on_alike_and_apart(rt: HostRuntime) -> Result<(), Fail> {
         assert!(rt; step(&mut world, pid));
     }
     assert!(rt; copy.is_same(&world));
+    Ok(())
+}
+
+/// The pattern with these words.
+fn pattern(alloc: Global, words: &str) -> Result<Bad, Fail> {
+    match read_bad(alloc, words)? {
+        Some(bad) => Ok(bad),
+        None => Err(Fail::from("the words are no pattern")),
+    }
+}
+
+/// A search for what no order may have.
+fn search_for(alloc: Global, words: &[&str]) -> Result<Search, Fail> {
+    let mut bad = Vec::new(alloc);
+    for one in words {
+        bad.push(pattern(alloc, one)?)?;
+    }
+    Ok(Search::new(alloc, world(alloc)?, bad, 1_000)?)
+}
+
+#[test]
+fn an_item_is_found_at_its_turn(rt: HostRuntime) -> Result<(), Fail> {
+    let mut search = search_for(rt.alloc(), &["9 * *", "4 event_create OK"])?;
+    let Next::Bad(turn) = search.next_end() else {
+        return Err(Fail::from("4 makes an event"));
+    };
+    let mut world = world(rt.alloc())?;
+    let Some((last, before)) = turn.turns.split_last() else {
+        return Err(Fail::from("there is a turn"));
+    };
+    assert_eq!(rt; *last, 4);
+    for pid in before {
+        let Some((item, told)) = world.step(*pid) else {
+            return Err(Fail::from("each has its turn"));
+        };
+        world.put_back(told);
+        assert!(rt; !turn.bad.names(item));
+    }
+    let Some((item, told)) = world.step(*last) else {
+        return Err(Fail::from("the last one has its turn"));
+    };
+    world.put_back(told);
+    assert!(rt; turn.bad.names(item));
+    Ok(())
+}
+
+#[test]
+fn what_no_order_has_changes_nothing(rt: HostRuntime) -> Result<(), Fail> {
+    let mut search = search_for(
+        rt.alloc(),
+        &["5 close *", "* * BAD_HANDLE", "* stuck", "4 ended 4"],
+    )?;
+    assert_eq!(rt; ends_of(&mut search), (2, true));
+    assert_eq!(rt; search.worlds(), 98);
+    assert_eq!(rt; search.turns(), 193);
+    Ok(())
+}
+
+#[test]
+fn an_end_is_named_by_what_a_process_is_in(rt: HostRuntime) -> Result<(), Fail> {
+    let mut bad = Vec::new(rt.alloc());
+    bad.push(pattern(rt.alloc(), "* blocked")?)?;
+    bad.push(pattern(rt.alloc(), "6 ended -3")?)?;
+    bad.push(pattern(rt.alloc(), "7 created")?)?;
+    let ended = ProcState::Ended(-3);
+    assert!(rt; named_end(&bad, &[(4, ProcState::Gone), (5, ended)]).is_none());
+    assert!(rt; named_end(&bad, &[(4, ProcState::Created), (5, ProcState::Blocked)]).is_some());
+    assert!(rt; named_end(&bad, &[(4, ProcState::Gone), (6, ended)]).is_some());
+    assert!(rt; named_end(&bad, &[(6, ProcState::Ended(3))]).is_none());
+    assert!(rt; named_end(&bad, &[(7, ProcState::Created)]).is_some());
+    assert!(rt; named_end(&bad, &[]).is_none());
+    Ok(())
+}
+
+#[test]
+fn patterns_have_one_spelling(rt: HostRuntime) -> Result<(), Fail> {
+    for words in [
+        "* blocked",
+        "7 created",
+        "18446744073709551615 stuck",
+        "6 ended -2147483648",
+        "* ended 0",
+        "6 chan_write PEER_CLOSED",
+        "* * *",
+        "* * blocked",
+        "4 port_wait *",
+        "4 process_exit ended 7",
+    ] {
+        let mut spelled = String::new(rt.alloc());
+        pattern(rt.alloc(), words)?.push_words(&mut spelled)?;
+        assert!(rt; spelled.as_bytes() == words.as_bytes());
+    }
+    for words in [
+        "",
+        "*",
+        "6",
+        "* ready",
+        "* blocked ",
+        " * blocked",
+        "*  blocked",
+        "06 blocked",
+        "+6 blocked",
+        "-1 blocked",
+        "18446744073709551616 stuck",
+        "6 ended",
+        "6 ended 2147483648",
+        "6 ended +1",
+        "6 ended 0x1",
+        "6 ended *",
+        "6 chan_write",
+        "6 chan_writ PEER_CLOSED",
+        "6 chan_write PEERCLOSED",
+        "6 chan_write ended",
+        "6 chan_write blocked 1",
+        "6 chan_write OK OK",
+        "6 process_exit ended 1 2",
+        "any blocked",
+    ] {
+        assert!(rt; read_bad(rt.alloc(), words)?.is_none());
+    }
+    Ok(())
+}
+
+#[test]
+fn a_search_says_whether_one_goes_on_for_ever(rt: HostRuntime) -> Result<(), Fail> {
+    let mut search = Search::new(rt.alloc(), world(rt.alloc())?, Vec::new(rt.alloc()), 1_000)?;
+    for _ in 0..2 {
+        assert!(rt; matches!(search.next_end(), Next::End(_)));
+    }
+    assert!(rt; matches!(search.next_end(), Next::All { endless: false }));
     Ok(())
 }

@@ -12,4 +12,4 @@ returns-clause-whole c =
     let first : Node Machine = record { at = c.in_ok-start.start; from = 0; by = 0 } in
     whole_one _ first (subst RestsStill (sym c.new-root.ensures) (rests_start c.args.world c.requires))
     (c.in_ok-push-2.ensures.items ∙ ap (λ (x : List (Node Machine)). x ++ (first ∷ [])) c.new-nodes.ensures.items)
-    (c.in_ok-start.ensures.next ∙ ap start_of c.in_ok-copy.ensures) refl
+    (c.in_ok-start.ensures.next ∙ ap start_of c.in_ok-copy.ensures) refl c.new-2.ensures.items

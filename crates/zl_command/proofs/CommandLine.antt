@@ -1,10 +1,11 @@
 -- What clap finds in the words that it takes for the program's commands.
 use Rattle.zl_command.proofs.Common.{AnswersError, App, Bool, Err, ErrorKind, GivesText, HasNumber, HasValue, HasValues, IfErr, IfOk, IfSome, IfTask, IfText}
 use Rattle.zl_command.proofs.Common.{IsShown, List, MayAskForHelp, MayHaveNumber, None, Ok, Option, Result, Shape, Some, Text, [], ap, built, bytes_eq, codes}
-use Rattle.zl_command.proofs.Common.{commands, cond, entered, false, fault_of, filled, inl, inr, is_simple_and_free, is_some, names_of, needed, not, numbered}
-use Rattle.zl_command.proofs.Common.{optional, option_map, option_map_or, refl, rows_at, slice_get, subcommand_of, subst, sym, true, true≢false, unwrap_or}
-use Rattle.zl_command.proofs.Common.{with_index, ℕ, ◌&&◌, ◌||◌, ◌∙◌, ◌∷◌, ◌≡◌, ◌≢◌, ◌⊎◌}
+use Rattle.zl_command.proofs.Common.{commands, cond, entered, false, fault_of, filled, inl, inr, is_simple_and_free, is_some, map, names_of, needed, not}
+use Rattle.zl_command.proofs.Common.{numbered, optional, option_map, option_map_or, refl, repeated, rows_at, slice_get, subcommand_of, subst, sym, true}
+use Rattle.zl_command.proofs.Common.{true≢false, unwrap_or, with_index, ℕ, ◌&&◌, ◌||◌, ◌∙◌, ◌∷◌, ◌≡◌, ◌≢◌, ◌⊎◌}
 use Rattle.std.proofs.lemmas.Slice.Eq.{bytes_eq-Decides}
+use Rattle.std.specs.Borrow.{Bor}
 use Rattle.clap.specs.Walk.{Held, Row, Rule, nothing_held, rows_after, stop_after, used}
 use Rattle.clap.specs.Kinds.{IsAmong, Kinds, check_kinds}
 use Rattle.clap.specs.declared.error.kind.ErrorKind.TheVariants.{DisplayHelp, InvalidSubcommand, OutOfMemory}
@@ -16,7 +17,7 @@ use Rattle.zl_command.specs.declared.command.WordFault.TheVariants.{NoMemory, Us
 use Rattle.clap.specs.Faults.{check_fault, entered_fault, level_fault, other_fault}
 use Rattle.zl_command.proofs.WalkKeeps.{Each, KeepsRows, level_fits}
 use Rattle.zl_command.proofs.ValueRows.{IsFilled, IsNumberRow, given_first, given_number, may_have_number, needed_keeps, number_keeps, option_keeps}
-use Rattle.zl_command.proofs.ValueRows.{other_keeps}
+use Rattle.zl_command.proofs.ValueRows.{other_keeps, other_more_keeps, repeated_keeps}
 
 -- ---- the subcommand's level
 
@@ -120,6 +121,9 @@ run_burst =
     let burst = number_keeps rules again (codes "burst") 1 1000000 2 false in
     (scenario, (workers, (limit, (burst, ((λ values rows e each. each), tt)))))
 
+abbrev bad_rule : Rule
+bad_rule = with_index 2 (filled (repeated (codes "bad")))
+
 -- each argument of `explore` keeps the fact of rows
 abbrev ExploreKeeps : (Row → Type 0) → Type 0
 ExploreKeeps R = Each (KeepsRows explore_shape.rules explore_shape.args_override_self R) explore_shape.rules
@@ -129,7 +133,8 @@ explore_filled =
     let rules = explore_shape.rules in
     let again = explore_shape.args_override_self in
     let worlds = option_keeps rules again (codes "worlds") 1 1000000000 2 false in
-    (needed_keeps rules again (codes "SCENARIO") 1, (worlds, ((λ values rows e filled_rows. filled_rows), tt)))
+    let bad = repeated_keeps rules again (codes "bad") 2 in
+    (needed_keeps rules again (codes "SCENARIO") 1, (worlds, (bad, ((λ values rows e filled_rows. filled_rows), tt))))
 
 explore_worlds : ExploreKeeps (IsNumberRow (codes "worlds") 1 1000000000)
 explore_worlds =
@@ -137,7 +142,8 @@ explore_worlds =
     let again = explore_shape.args_override_self in
     let scenario = other_keeps rules again (codes "worlds") 1 1000000000 scenario_rule refl refl refl in
     let worlds = number_keeps rules again (codes "worlds") 1 1000000000 2 false in
-    (scenario, (worlds, ((λ values rows e each. each), tt)))
+    let bad = other_more_keeps rules again (codes "worlds") 1 1000000000 bad_rule refl refl refl in
+    (scenario, (worlds, (bad, ((λ values rows e each. each), tt))))
 
 both_given : (a b : Bool) → check_kinds false false (not a || (not b || false)) ≡ [] → (a ≡ true) × (b ≡ true)
 both_given true true e = (refl, refl)
@@ -202,9 +208,10 @@ explore_values : (words : List Text) → level_fault explore_shape [] nothing_he
     → HasValue (rows_after explore_shape.rules [] words) (codes "SCENARIO")
     × MayHaveNumber (rows_after explore_shape.rules [] words) (codes "worlds") 1 1000000000
 explore_values words e =
-    let end = level_fits explore_shape [] IsFilled explore_filled (λ _. Unit {0}) (λ name word h none. tt) words false [] (refl, (refl, (refl, tt))) e in
+    let end = level_fits explore_shape [] IsFilled explore_filled (λ _. Unit {0}) (λ name word h none. tt) words false
+    [] (refl, (refl, (refl, (refl, tt)))) e in
     let numbers = level_fits explore_shape [] (IsNumberRow (codes "worlds") 1 1000000000) explore_worlds (λ _. Unit {0}) (λ name word h none. tt) words false
-    [] (refl, (refl, (refl, tt))) e in
+    [] (refl, (refl, (refl, (refl, tt)))) e in
     (given_first (codes "SCENARIO") _ end.0 (one_given _ end.3), may_have_number (codes "worlds") 1 1000000000 _ numbers.0)
 
 -- ---- the program's level
@@ -288,6 +295,15 @@ pub mapped_some : {X Y : Type 0} (f : X → Y) (o : Option X) → is_some o ≡ 
 mapped_some f None = refl
 mapped_some f (Some x) = refl
 
+-- the words that clap has of an option, or none
+pub words_found : (o : Option (Bor (List (Bor Text)))) (none : Bor (List (Bor Text))) (all : Option (List Text)) → none.now ≡ []
+    → option_map (λ s. map (λ w. w.now) s.now) o ≡ all → map (λ w. w.now) (unwrap_or o none).now ≡ unwrap_or all []
+words_found o none all empty is = go o ∙ ap (λ a. unwrap_or a []) is
+  where
+    go : (o : Option (Bor (List (Bor Text)))) → map (λ w. w.now) (unwrap_or o none).now ≡ unwrap_or (option_map (λ s. map (λ w. w.now) s.now) o) []
+    go None = ap (map (λ w. w.now)) empty
+    go (Some s) = refl
+
 -- an app that is the command set finds no fault where that finds none
 pub none_found : (app : App) (words : List Text) → app ≡ commands → (is_simple_and_free app ≡ true → fault_of app words ≡ []) → fault_of commands words ≡ []
 none_found app words is none = sym (ap (λ a. fault_of a words) is) ∙ none (ap is_simple_and_free is)
@@ -324,13 +340,23 @@ module _ (kinds : Kinds) (kind : ErrorKind) (has : (kind ≡ OutOfMemory) ⊎ Is
   may_ask (Ok (asked.Task task)) is = tt
   may_ask (Err fault) is = tt
 
-  pub has_fault : (r : Result Asked WordFault) → AnswersError kind r → IfErr r (λ fault. fault ≡ Usage → kinds ≢ [])
-  has_fault (Ok answer) is = tt
-  has_fault (Err fault) is = λ usage none. subst (IsAmong kind) none (found (is usage).0)
+  pub has_fault : (within : Bool) (r : Result Asked WordFault) → AnswersError kind r
+      → IfErr r (λ fault. fault ≡ Usage → (kinds ≢ []) ⊎ (within ≡ false))
+  has_fault within (Ok answer) is = tt
+  has_fault within (Err fault) is = λ usage. inl (λ none. subst (IsAmong kind) none (found (is usage).0))
 
 -- where clap takes the words, only memory can be wanted
-pub not_taken : (taken : Bool) (kind : ErrorKind) (r : Result Asked WordFault) → (taken ≡ true → kind ≡ OutOfMemory) → AnswersError kind r
-    → IfErr r (λ fault. fault ≡ Usage → taken ≡ false)
-not_taken taken kind (Ok answer) memory is = tt
-not_taken true kind (Err fault) memory is = λ usage. absurd ((is usage).0 (memory refl))
-not_taken false kind (Err fault) memory is = λ usage. refl
+pub not_taken : (taken within : Bool) (kind : ErrorKind) (r : Result Asked WordFault) → (taken ≡ true → kind ≡ OutOfMemory) → AnswersError kind r
+    → IfErr r (λ fault. fault ≡ Usage → (taken && within) ≡ false)
+not_taken taken within kind (Ok answer) memory is = tt
+not_taken true within kind (Err fault) memory is = λ usage. absurd ((is usage).0 (memory refl))
+not_taken false within kind (Err fault) memory is = λ usage. refl
+
+pub not_within : (taken within : Bool) → within ≡ false → (taken && within) ≡ false
+not_within true within is = is
+not_within false within is = refl
+
+-- a fault that is passed on is one of the words where it was one
+pub passed_on : {T : Type 0} (r : Result T WordFault) (fault : WordFault) (P : Type 0) → r ≡ Err fault → (fault ≡ Usage → P)
+    → IfErr r (λ f. f ≡ Usage → P)
+passed_on r fault P is usage = subst (λ x. IfErr x (λ f. f ≡ Usage → P)) (sym is) usage

@@ -1,6 +1,6 @@
 -- Command lines, as clap's definitions read them.
-use Rattle.zl_command.proofs.Common.{List, None, Option, Some, Text, [], codes, commands, fault_of, first_of, is_simple_and_free, number_of, option_map, refl}
-use Rattle.zl_command.proofs.Common.{subcommand_of, takes, true, ℕ, ◌++◌, ◌∷◌, ◌≡◌}
+use Rattle.zl_command.proofs.Common.{List, None, Option, Some, Text, [], are_accepted, bad_of, codes, commands, false, fault_of, first_of, is_simple_and_free}
+use Rattle.zl_command.proofs.Common.{number_of, option_map, refl, subcommand_of, suc, takes, true, zero, ℕ, ◌++◌, ◌∷◌, ◌≡◌}
 use Rattle.clap.specs.declared.error.kind.ErrorKind.TheVariants as kind
 use Rattle.clap.proofs.OnLiterals.{clap_on_literals}
 
@@ -28,6 +28,23 @@ threads words = option_map (λ found. (
 abbrev orders : List Text → Option (Text × Option Text × Option ℕ)
 orders words =
     option_map (λ found. (found.0, first_of (codes "SCENARIO") found.1, number_of (codes "worlds") found.1)) (subcommand_of commands words)
+
+-- the words of each `--bad` of a search, in order
+abbrev bads : List Text → Option (List Text)
+bads words = option_map (λ found. bad_of found.1) (subcommand_of commands words)
+
+-- the words are accepted, for a search over the scenario `a`, over so many worlds if it is said, for these patterns
+abbrev SearchesFor : List Text → Option ℕ → List Text → Type 0
+SearchesFor words worlds wanted =
+    (are_accepted words ≡ true) × (orders words ≡ Some (codes "explore", Some (codes "a"), worlds)) × (bads words ≡ Some wanted)
+
+abbrev times : ℕ → List Text → List Text
+times zero words = []
+times (suc n) words = words ++ times n words
+
+-- a search with so many patterns
+abbrev with_so_many : ℕ → List Text
+with_so_many n = codes "explore" ∷ codes "a" ∷ times n (codes "--bad=x" ∷ [])
 
 abbrev with_worlds : Text → List Text
 with_worlds worlds = codes "explore" ∷ codes "a" ∷ codes "--worlds" ∷ worlds ∷ []
@@ -272,3 +289,49 @@ workers_of_a_search = refl
 worlds_of_a_run : fault_of commands (with_both (codes "4") (codes "1000") ++ (codes "--worlds" ∷ codes "7" ∷ [])) ≡ kind.UnknownArgument ∷ []
 unfolding clap_on_literals
 worlds_of_a_run = refl
+
+no_pattern : SearchesFor (codes "explore" ∷ codes "a" ∷ []) None []
+unfolding clap_on_literals
+no_pattern = (refl, refl, refl)
+
+a_pattern : SearchesFor (codes "explore" ∷ codes "a" ∷ codes "--bad" ∷ codes "* blocked" ∷ []) None (codes "* blocked" ∷ [])
+unfolding clap_on_literals
+a_pattern = (refl, refl, refl)
+
+patterns_in_order : SearchesFor (codes "explore" ∷ codes "--bad" ∷ codes "y" ∷ codes "a" ∷ codes "--bad=x" ∷ codes "--worlds=7" ∷ codes "--bad=z" ∷ [])
+    (Some 7) (codes "y" ∷ codes "x" ∷ codes "z" ∷ [])
+unfolding clap_on_literals
+patterns_in_order = (refl, refl, refl)
+
+an_empty_pattern : SearchesFor (codes "explore" ∷ codes "a" ∷ codes "--bad=" ∷ codes "--bad" ∷ [] ∷ []) None ([] ∷ [] ∷ [])
+unfolding clap_on_literals
+an_empty_pattern = (refl, refl, refl)
+
+a_pattern_with_a_hyphen : SearchesFor (codes "explore" ∷ codes "a" ∷ codes "--bad=-x" ∷ codes "--bad" ∷ codes "-" ∷ []) None (codes "-x" ∷ codes "-" ∷ [])
+unfolding clap_on_literals
+a_pattern_with_a_hyphen = (refl, refl, refl)
+
+the_most_patterns : SearchesFor (with_so_many 16) None (times 16 (codes "x" ∷ []))
+unfolding clap_on_literals
+the_most_patterns = (refl, refl, refl)
+
+one_pattern_too_many : (are_accepted (with_so_many 17) ≡ false) × (fault_of commands (with_so_many 17) ≡ [])
+unfolding clap_on_literals
+one_pattern_too_many = (refl, refl)
+
+patterns_without_words : (fault_of commands (codes "explore" ∷ codes "a" ∷ codes "--bad" ∷ []) ≡ kind.InvalidValue ∷ [])
+    × (fault_of commands (codes "explore" ∷ codes "a" ∷ codes "--bad" ∷ codes "--worlds=7" ∷ []) ≡ kind.InvalidValue ∷ [])
+unfolding clap_on_literals
+patterns_without_words = (refl, refl)
+
+an_option_as_a_pattern : fault_of commands (codes "explore" ∷ codes "a" ∷ codes "--bad" ∷ codes "-x" ∷ []) ≡ kind.UnknownArgument ∷ []
+unfolding clap_on_literals
+an_option_as_a_pattern = refl
+
+patterns_alone : fault_of commands (codes "explore" ∷ codes "--bad" ∷ codes "* blocked" ∷ []) ≡ kind.MissingRequiredArgument ∷ []
+unfolding clap_on_literals
+patterns_alone = refl
+
+patterns_of_a_run : fault_of commands (with_both (codes "4") (codes "1000") ++ (codes "--bad" ∷ codes "* blocked" ∷ [])) ≡ kind.UnknownArgument ∷ []
+unfolding clap_on_literals
+patterns_of_a_run = refl

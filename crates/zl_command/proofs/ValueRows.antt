@@ -2,7 +2,7 @@
 use Rattle.zl_command.proofs.Common.{Bool, Err, ErrorKind, HasNumber, HasValue, IsSome, List, MayHaveNumber, None, Ok, Option, ParsesUnsigned, Result, Some}
 use Rattle.zl_command.proofs.Common.{Text, [], ap, arith, bytes_eq, cond, false, filled, find, inl, inr, is_some, needed, number, number_of, numbered}
 use Rattle.zl_command.proofs.Common.{option_and_then, option_map, option_map_or, refl, slice_get, subst, sym, true, true≢false, unwrap_or, with_index, ℕ}
-use Rattle.zl_command.proofs.Common.{◌++◌, ◌∙◌, ◌∷◌, ◌≡◌, ◌⊎◌}
+use Rattle.zl_command.proofs.Common.{repeated, ◌++◌, ◌∙◌, ◌∷◌, ◌≡◌, ◌⊎◌}
 use Rattle.std.proofs.Common.{◌≤◌, ◌<◌, ◌^◌, leb-true, ltb-true}
 use Rattle.std.specs.Prelude.{IsSomeAnd, nat_lt}
 use Rattle.std.specs.List.{list_all}
@@ -18,7 +18,7 @@ use Rattle.clap.specs.Walk.{Row, Rule, action_of, at_row, more_values, most_valu
 use Rattle.clap.specs.Words.{ReadsOne, one_text}
 use Rattle.clap.proofs.WalkLemmas.{both, one_text-rows}
 use Rattle.clap.specs.declared.builder.action.ArgAction.{ArgAction}
-use Rattle.clap.specs.declared.builder.action.ArgAction.TheVariants.{Set}
+use Rattle.clap.specs.declared.builder.action.ArgAction.TheVariants.{Append, Set}
 use Rattle.clap.specs.declared.error.kind.ErrorKind.TheVariants.{ValueValidation}
 use Rattle.clap.specs.declared.parser.matches.Found.{Found}
 use Rattle.clap.specs.declared.parser.matches.ValueSource.TheVariants.{CommandLine}
@@ -64,6 +64,17 @@ module _ (R : Row → Type 0) (grows : (more : List Text) (r : Row) → R r → 
       (at_row_keeps a.id (more_values CommandLine (v ∷ vs)) (fresh a (v ∷ vs) ∷ []) (without a.id rows) (one_grows (v ∷ vs))
       (first v vs (none_of _ _ uses).1, tt) kept)
 
+  -- a use that adds its values to those of the uses before it
+  pub more_keeps : (rules : List Rule) (again : Bool) (a : Rule) → action_of a ≡ Append → (unwrap_or_range a.range).start_inclusive ≡ 1
+      → ((v : Text) (vs : List Text) → values_fault a (v ∷ vs) ≡ [] → R (fresh a (v ∷ vs))) → KeepsRows rules again R a
+  more_keeps rules again a is_append is_one first [] rows e each =
+      let wanted : range_kinds 1 (most_values a) 0 ≡ [] = subst (λ (n : ℕ). range_kinds n (most_values a) 0 ≡ []) is_one (none_of _ _ e).0 in
+      cc
+  more_keeps rules again a is_append is_one first (v ∷ vs) rows e each =
+      let passes : values_fault a (v ∷ vs) ≡ [] = subst (λ (x : ArgAction). action_fault x again a (v ∷ vs) rows ≡ []) is_append (none_of _ _ e).1 in
+      subst (λ (x : ArgAction). Each R (used_as x a.id (reading_by a) (v ∷ vs) rows)) (sym is_append)
+      (at_row_keeps a.id (more_values CommandLine (v ∷ vs)) (fresh a (v ∷ vs) ∷ []) rows (one_grows (v ∷ vs)) (first v vs passes, tt) each)
+
 -- ---- rows with a value
 
 abbrev HasAny : List Text → Type 0
@@ -88,6 +99,11 @@ pub option_keeps : (rules : List Rule) (again : Bool) (name : Text) (least most 
     → KeepsRows rules again IsFilled (with_index place (filled (record (numbered name least most) { required = required })))
 option_keeps rules again name least most place required =
     use_keeps IsFilled filled_grows rules again (with_index place (filled (record (numbered name least most) { required = required }))) refl refl (λ v vs e. tt)
+
+pub repeated_keeps : (rules : List Rule) (again : Bool) (name : Text) (place : ℕ)
+    → KeepsRows rules again IsFilled (with_index place (filled (repeated name)))
+repeated_keeps rules again name place =
+    more_keeps IsFilled filled_grows rules again (with_index place (filled (repeated name))) refl refl (λ v vs e. tt)
 
 -- what was given has a value
 pub given_first : (name : Text) (rows : List Row) → Each IsFilled rows → is_given name rows ≡ true → HasValue rows name
@@ -143,6 +159,12 @@ pub other_keeps : (rules : List Rule) (again : Bool) (name : Text) (least most :
     → (unwrap_or_range a.range).start_inclusive ≡ 1 → bytes_eq a.id name ≡ false → KeepsRows rules again (IsNumberRow name least most) a
 other_keeps rules again name least most a is_set is_one apart =
     use_keeps (IsNumberRow name least most) (number_grows name least most) rules again a is_set is_one (λ v vs e same. absurd (true≢false (sym same ∙ apart)))
+
+pub other_more_keeps : (rules : List Rule) (again : Bool) (name : Text) (least most : ℕ) (a : Rule) → action_of a ≡ Append
+    → (unwrap_or_range a.range).start_inclusive ≡ 1 → bytes_eq a.id name ≡ false → KeepsRows rules again (IsNumberRow name least most) a
+other_more_keeps rules again name least most a is_append is_one apart =
+    more_keeps (IsNumberRow name least most) (number_grows name least most) rules again a is_append is_one
+    (λ v vs e same. absurd (true≢false (sym same ∙ apart)))
 
 found_passes : {X : Type 0} (p : X → Bool) (xs : List X) (x : X) → find p xs ≡ Some x → p x ≡ true
 found_passes p [] x found = cc

@@ -1,9 +1,11 @@
 -- The command line: the command set as `clap` defines one, and what its words ask for.
-use Rattle.std.specs.Prelude.{◌≡◌, ◌≢◌, ◌≤◌, ◌⊎◌, true, false, codes, Option, Some, None, IsSome, IsSomeAnd, option_and_then, unwrap_or, ℕ, List, [], ◌∷◌}
-use Rattle.std.specs.Prelude.{Result, Ok, Err, fold, if◌then◌else◌}
+use Rattle.std.specs.Prelude.{◌≡◌, ◌≢◌, ◌≤◌, ◌⊎◌, ◌&&◌, Bool, true, false, codes, Option, Some, None, IsSome, IsSomeAnd, option_and_then, unwrap_or, ℕ, List}
+use Rattle.std.specs.Prelude.{[], ◌∷◌, Result, Ok, Err, fold, if◌then◌else◌, length, map, nat_le}
 use Rattle.std.specs.Str.Parse.{digits_value, without_leading_plus}
 use Rattle.clap.specs.ValueTests.{is_numeral}
-use Rattle.clap.specs.Words.{App, IsAmong, Kinds, Row, Rule, Text, first_of, new_app, new_rule, one_of, with_rule, with_subcommand}
+use Rattle.clap.specs.Words.{App, IsAmong, Kinds, Row, Rule, Text, all_of, first_of, new_app, new_rule, one_of, subcommand_of, takes, with_rule}
+use Rattle.clap.specs.Words.{with_subcommand}
+use Rattle.clap.specs.declared.builder.action.ArgAction.TheVariants.{Append}
 use Rattle.clap.specs.declared.builder.value_parser.ValueParser.TheVariants.{Unsigned}
 use Rattle.clap.specs.declared.error.kind.ErrorKind.{ErrorKind}
 use Rattle.clap.specs.declared.error.kind.ErrorKind.TheVariants.{DisplayHelp, DisplayVersion, OutOfMemory}
@@ -29,6 +31,14 @@ numbered word least most = record (needed word) {
 -- an option that may be left out
 abbrev pub optional : Rule → Rule
 optional rule = record rule { required = false }
+
+-- an option that may stand several times, and each time takes a word
+abbrev pub repeated : Text → Rule
+repeated word = record (new_rule word) {
+  long = Some word;
+  value_names = 1;
+  action = Some Append;
+}
 
 -- a command of this name, whose words must all be there
 abbrev pub command_of : Text → List Text → App
@@ -62,9 +72,10 @@ abbrev pub running : App
 running = fold with_rule (command_of (codes "run") (codes "SCENARIO" ∷ []))
     (numbered (codes "workers") 1 64 ∷ numbered (codes "limit") 0 1000000 ∷ optional (numbered (codes "burst") 1 1000000) ∷ [])
 
--- explore SCENARIO [--worlds N]
+-- explore SCENARIO [--worlds N] [--bad WORDS]..
 abbrev pub exploring : App
-exploring = with_rule (command_of (codes "explore") (codes "SCENARIO" ∷ [])) (optional (numbered (codes "worlds") 1 1000000000))
+exploring = fold with_rule (command_of (codes "explore") (codes "SCENARIO" ∷ []))
+    (optional (numbered (codes "worlds") 1 1000000000) ∷ repeated (codes "bad") ∷ [])
 
 -- the command set: no words, or those of one of the commands
 abbrev pub commands : App
@@ -90,6 +101,19 @@ HasNumber rows name least most = IsSomeAnd (number_of name rows) (λ n. (least �
 -- clap finds nothing of this name, or reads a number from least to most
 abbrev pub MayHaveNumber : List Row → Text → ℕ → ℕ → Type 0
 MayHaveNumber rows name least most = (one_of name rows ≡ None) ⊎ HasNumber rows name least most
+
+-- the words of each `--bad`, in the order in which they stand
+abbrev pub bad_of : List Row → List Text
+bad_of rows = unwrap_or (all_of (codes "bad") rows) []
+
+-- what clap finds has `--bad` at most 16 times
+abbrev pub is_within : Option (Text × List Row) → Bool
+is_within None = true
+is_within (Some found) = nat_le (length (bad_of found.1)) 16
+
+-- the words are accepted: clap takes them for the command set, and they have `--bad` at most 16 times
+abbrev pub are_accepted : List Text → Bool
+are_accepted words = takes commands words && is_within (subcommand_of commands words)
 
 -- the command of this name has its values
 abbrev pub HasItsValues : Text → List Row → Type 0
@@ -126,9 +150,10 @@ AsksFor (Some found) (Run scenario workers limit burst) = (found.0 ≡ codes "ru
     × (number_of (codes "workers") found.1 ≡ Some workers) × (1 ≤ workers) × (workers ≤ 64)
     × (number_of (codes "limit") found.1 ≡ Some limit) × (limit ≤ 1000000)
     × (burst ≡ unwrap_or (number_of (codes "burst") found.1) 256) × (1 ≤ burst) × (burst ≤ 1000000)
-AsksFor (Some found) (Explore scenario worlds) = (found.0 ≡ codes "explore")
+AsksFor (Some found) (Explore scenario worlds bad) = (found.0 ≡ codes "explore")
     × (first_of (codes "SCENARIO") found.1 ≡ Some scenario.now)
     × (worlds ≡ unwrap_or (number_of (codes "worlds") found.1) 1000000) × (1 ≤ worlds) × (worlds ≤ 1000000000)
+    × (map (λ words. words.now) bad.items ≡ bad_of found.1) × (length bad.items ≤ 16)
 AsksFor _ _ = ⊥
 
 -- of an answer that is a task, the task has the fact

@@ -1,19 +1,22 @@
 //! The command line, read with `clap`: what its words ask for, and its help.
-ghost use Rattle.std.specs.Prelude.{◌≡◌, ◌≢◌, ◌≤◌, Some, IfOk, IfErr, map, codes, false, unwrap_or, [], ◌∷◌};
-ghost use Rattle.clap.specs.Takes.{takes};
+ghost use Rattle.std.specs.Prelude.{◌≡◌, ◌≢◌, ◌≤◌, ◌<◌, ◌⊎◌, Some, IfOk, IfErr, map, codes, false, length, unwrap_or, [], ◌∷◌};
 ghost use Rattle.clap.specs.Words.{app_of, fault_of, first_of, found_of, kind_of, rows_of, rule_of, subcommand_of, subcommand_rows_of};
 ghost use Rattle.zl_command.specs.Words.{AnswersError, AsksFor, GivesText, HasItsValues, HasNumber, HasValue, HasValues, IfTask, IfText, MayAskForHelp, MayHaveNumber};
-ghost use Rattle.zl_command.specs.Words.{assembling, checking, commands, exploring, needed, number_of, numbered, replaying, running, stepping};
+ghost use Rattle.zl_command.specs.Words.{are_accepted, assembling, bad_of, checking, commands, exploring, is_within, needed, number_of, numbered, repeated, replaying};
+ghost use Rattle.zl_command.specs.Words.{running, stepping};
 ghost use Rattle.zl_command.specs.declared.command.WordFault.TheVariants.{NoMemory, Usage};
 
 mod texts;
 
 use clap::builder::ValueParser;
 use clap::error::ErrorKind;
-use clap::{Arg, ArgMatches, Command};
+use clap::{Arg, ArgAction, ArgMatches, Command};
 use std::alloc::{AllocError, Global};
 use std::convert::AsStr;
 use thiserror::Error;
+
+/// How often `--bad` may stand among the words.
+const MOST_BAD: usize = 16;
 
 /// What a command line asks for.
 #[derive(Debug, Drop)]
@@ -25,7 +28,7 @@ pub enum Asked<'a> {
 }
 
 /// What the program does with its inputs.
-#[derive(Clone, Copy, PartialEq, Eq, Debug)]
+#[derive(PartialEq, Eq, Debug, Drop)]
 pub enum Task<'a> {
     /// No words: standard input has a scenario and a schedule, whose trace is written.
     Input,
@@ -67,13 +70,15 @@ pub enum Task<'a> {
         /// How many local instructions a burst has at most, 1 to 1,000,000; 256 without the option.
         burst: u32,
     },
-    /// `explore SCENARIO [--worlds N]`: all turns of a scenario are taken in each order, and each end
-    /// that is met is written.
+    /// `explore SCENARIO [--worlds N] [--bad WORDS]..`: all turns of a scenario are taken in each order,
+    /// and each end that is met is written, up to the first thing that no order may have.
     Explore {
         /// The path of the scenario.
         scenario: &'a str,
         /// How many worlds are met at most, 1 to 1,000,000,000; 1,000,000 without the option.
         worlds: u32,
+        /// The words of each `--bad`, in the order in which they stand; 16 at most.
+        bad: Vec<&'a str>,
     },
 }
 
@@ -97,8 +102,8 @@ impl From<AllocError> for WordFault {
 }
 
 /// What the words after the program's name ask for. A text comes where `clap` answers with its help or with
-/// the version, `Usage` where it takes the words neither for that nor for the command set, and `NoMemory`
-/// where memory is refused.
+/// the version, `Usage` where it takes the words neither for that nor for the command set, or where `--bad`
+/// stands more than 16 times among them, and `NoMemory` where memory is refused.
 pub fn parse<'a, S: AsStr>(alloc: Global, words: &'a [S]) -> Result<Asked<'a>, WordFault>
     ensures task { IfOk result (IfTask (λ task. AsksFor (subcommand_of commands
         (map S.text words.entry.now)) task)) }
@@ -110,13 +115,14 @@ pub fn parse<'a, S: AsStr>(alloc: Global, words: &'a [S]) -> Result<Asked<'a>, W
         ≡ ErrorKind.DisplayVersion ∷ [] → GivesText result }
     ensures other { IfOk result (IfText (MayAskForHelp
         (fault_of commands (map S.text words.entry.now)))) }
-    ensures faulty { IfErr result (λ fault. fault ≡ Usage → fault_of commands
-        (map S.text words.entry.now) ≢ []) }
-    ensures usage { IfErr result (λ fault. fault ≡ Usage → takes commands
+    ensures faulty { IfErr result (λ fault. fault ≡ Usage
+        → (fault_of commands (map S.text words.entry.now) ≢ [])
+        ⊎ (is_within (subcommand_of commands (map S.text words.entry.now)) ≡ false)) }
+    ensures usage { IfErr result (λ fault. fault ≡ Usage → are_accepted
         (map S.text words.entry.now) ≡ false) }
 {
     match command(alloc)?.try_get_matches_from(words) {
-        Ok(matches) => Ok(Asked::Task(task_of(&matches))),
+        Ok(matches) => Ok(Asked::Task(task_of(alloc, &matches)?)),
         Err(error) => text_of(alloc, error),
     }
 }
@@ -135,22 +141,30 @@ fn text_of<'a>(alloc: Global, error: clap::Error) -> Result<Asked<'a>, WordFault
 }
 
 /// The task that the matches of the command set stand for.
-fn task_of<'a>(matches: &ArgMatches<'a>) -> Task<'a>
+fn task_of<'a>(alloc: Global, matches: &ArgMatches<'a>) -> Result<Task<'a>, WordFault>
     requires { HasValues (subcommand_rows_of matches.now) }
-    ensures { AsksFor (subcommand_rows_of matches.now) result }
+    ensures task { IfOk result (AsksFor (subcommand_rows_of matches.now)) }
+    ensures usage { IfErr result (λ fault. fault ≡ Usage
+        → is_within (subcommand_rows_of matches.now) ≡ false) }
 {
     match matches.subcommand() {
-        None => Task::Input,
-        Some((name, values)) => task_of_command(name, values),
+        None => Ok(Task::Input),
+        Some((name, values)) => task_of_command(alloc, name, values),
     }
 }
 
 /// The task that a command of the set with its values stands for.
-fn task_of_command<'a>(name: &str, values: &ArgMatches<'a>) -> Task<'a>
+fn task_of_command<'a>(
+    alloc: Global,
+    name: &str,
+    values: &ArgMatches<'a>,
+) -> Result<Task<'a>, WordFault>
     requires { HasItsValues name.now (rows_of (found_of values.now)) }
-    ensures { AsksFor (Some (name.now, rows_of (found_of values.now))) result }
+    ensures task { IfOk result (AsksFor (Some (name.now, rows_of (found_of values.now)))) }
+    ensures usage { IfErr result (λ fault. fault ≡ Usage
+        → is_within (Some (name.now, rows_of (found_of values.now))) ≡ false) }
 {
-    if name == "asm" {
+    let task = if name == "asm" {
         Task::Assemble {
             text: value(values, "IN"),
             image: value(values, "OUT"),
@@ -176,12 +190,14 @@ fn task_of_command<'a>(name: &str, values: &ArgMatches<'a>) -> Task<'a>
         Task::Explore {
             scenario: value(values, "SCENARIO"),
             worlds: worlds(values),
+            bad: bad(alloc, values)?,
         }
     } else {
         Task::Check {
             image: value(values, "IMAGE"),
         }
-    }
+    };
+    Ok(task)
 }
 
 /// A value that the subcommand can't be without.
@@ -228,6 +244,21 @@ fn worlds<'a>(matches: &ArgMatches<'a>) -> u32
     ensures within { (1 ≤ result) × (result ≤ 1000000000) }
 {
     matches.get_one("worlds").unwrap_or(1_000_000)
+}
+
+/// The words of each `--bad`, in the order in which they stand, where there are no more than 16.
+fn bad<'a>(alloc: Global, matches: &ArgMatches<'a>) -> Result<Vec<&'a str>, WordFault>
+    ensures value { IfOk result (λ bad. map (λ words. words.now) bad.items
+        ≡ bad_of (rows_of (found_of matches.now))) }
+    ensures within { IfOk result (λ bad. length bad.items ≤ 16) }
+    ensures usage { IfErr result (λ fault. fault ≡ Usage
+        → 16 < length (bad_of (rows_of (found_of matches.now)))) }
+{
+    let found = matches.get_strs("bad").unwrap_or(&[]);
+    if found.len() > MOST_BAD {
+        return Err(WordFault::Usage);
+    }
+    Ok(found.to_vec(alloc)?)
 }
 
 /// The command set, with what the help says of it.
@@ -304,7 +335,20 @@ fn exploring<'a>(alloc: Global) -> Result<Command<'a>, AllocError>
     Command::new(alloc, "explore")
         .about("Takes the turns of the scenario in the file SCENARIO in each order, for its ends")
         .arg(needed(alloc, "SCENARIO", "The file of the scenario"))?
-        .arg(worlds.required(false))
+        .arg(worlds.required(false))?
+        .arg(repeated(alloc, "bad", "WORDS", texts::BAD))
+}
+
+/// An option that may stand several times, and each time takes a word.
+fn repeated<'a>(alloc: Global, name: &'a str, letter: &'a str, help: &'a str) -> Arg<'a>
+    ensures rule { rule_of result ≡ repeated name.entry.now }
+    ensures local { result.global ≡ false }
+{
+    Arg::new(alloc, name)
+        .help(help)
+        .long(name)
+        .value_name(letter)
+        .action(ArgAction::Append)
 }
 
 /// An option that must be there, whose value is a number from the one to the other.

@@ -99,17 +99,24 @@ struct Met {
     has_limit: bool,
     has_burst: bool,
     has_worlds: bool,
+    /// How often `--bad` was among them.
+    bad: u32,
     /// Whether a word `--` was among them.
     are_files: bool,
     /// The option whose number is the next word.
     open: Option<Numbered>,
+    /// Whether the next word is what `--bad` takes.
+    is_bad_open: bool,
 }
 
 const OPTIONS: [&str; 4] = ["--help", "--version", "-h", "-V"];
 
 const OPTIONS_OF_RUN: [&str; 4] = ["--workers", "--limit", "--burst", "--help"];
 
-const OPTIONS_OF_EXPLORE: [&str; 2] = ["--worlds", "--help"];
+const OPTIONS_OF_EXPLORE: [&str; 3] = ["--worlds", "--bad", "--help"];
+
+/// How often `--bad` may stand.
+const MOST_BAD: u32 = 16;
 
 /// Adds which of the words, those behind the program's name, wasn't understood.
 pub fn explain_words<S: AsStr>(hint: &mut String, alloc: Global, words: &[S]) {
@@ -222,8 +229,10 @@ fn push_options<S: AsStr>(
         has_limit: false,
         has_burst: false,
         has_worlds: false,
+        bad: 0,
         are_files: false,
         open: None,
+        is_bad_open: false,
     };
     for word in words {
         if push_wrong_word(hint, alloc, &mut met, word.as_str())? {
@@ -244,11 +253,18 @@ fn push_wrong_word(
         met.open = None;
         return push_wrong_number(hint, option, word);
     }
+    let is_option = word.len() > 1 && word.starts_with('-');
+    if mem::replace(&mut met.is_bad_open, false) {
+        if is_option {
+            push_no_words(hint)?;
+        }
+        return Ok(is_option);
+    }
     if word == "--" && !met.are_files {
         met.are_files = true;
         return Ok(false);
     }
-    if word.len() > 1 && word.starts_with('-') && !met.are_files {
+    if is_option && !met.are_files {
         return push_wrong_option(hint, alloc, met, word);
     }
     let is_second = met.has_file;
@@ -274,6 +290,12 @@ fn push_wrong_option(
             if is_it && option.command == met.command {
                 return push_wrong_use(hint, met, option, rest);
             }
+        }
+    }
+    if let Some(rest) = word.strip_prefix("--bad") {
+        let is_it = rest.is_empty() || rest.starts_with('=');
+        if is_it && met.command == "explore" {
+            return push_wrong_bad(hint, met, rest);
         }
     }
     let word = word.as_bytes();
@@ -314,6 +336,23 @@ fn push_wrong_use(
     push_wrong_number(hint, option, number)
 }
 
+/// Adds that `--bad`, whose words may stand behind its name, stands once too often, if it does.
+fn push_wrong_bad(hint: &mut String, met: &mut Met, rest: &str) -> Result<bool, AllocError> {
+    met.bad = met.bad.saturating_add(1);
+    met.is_bad_open = rest.is_empty();
+    let is_wrong = met.bad > MOST_BAD;
+    if is_wrong {
+        let most = Value::Number(u64::from(MOST_BAD));
+        push_text(hint, "--bad stands more than # times", &[most])?;
+    }
+    Ok(is_wrong)
+}
+
+/// Adds that the words of `--bad` are missing.
+fn push_no_words(hint: &mut String) -> Result<(), AllocError> {
+    hint.push_str("--bad takes WORDS, one word as '* blocked', and has none")
+}
+
 /// Adds that the option doesn't take the word, if it doesn't.
 fn push_wrong_number(hint: &mut String, option: Numbered, word: &str) -> Result<bool, AllocError> {
     if let Ok(number) = word.parse::<u64>() {
@@ -346,12 +385,15 @@ fn push_missing(hint: &mut String, met: Met) -> Result<(), AllocError> {
         push_range(hint, option)?;
         return hint.push_str(", and has none");
     }
+    if met.is_bad_open {
+        return push_no_words(hint);
+    }
     if !met.has_file {
         let text = "# takes one file, SCENARIO, and has none";
         return push_text(hint, text, &[Value::Name(met.command)]);
     }
     if met.command == "explore" {
-        return hint.push_str("explore takes SCENARIO [--worlds N]");
+        return hint.push_str("explore takes SCENARIO [--worlds N] [--bad WORDS]..");
     }
     if met.has_workers && met.has_limit {
         return hint.push_str("run takes SCENARIO --workers N --limit M [--burst K]");

@@ -12,6 +12,7 @@
 #![tactic(auto)]
 
 mod above;
+mod bad;
 mod checked;
 mod command;
 mod failing;
@@ -24,6 +25,7 @@ mod scenario;
 mod source;
 mod starts;
 
+pub use bad::explain_bad;
 pub use command::explain_words;
 pub use failing::{explain_failure, explain_opening};
 pub use page::{add_page, push_page};

@@ -12,8 +12,10 @@ pub const LIMIT: &str = "The most items of the trace, 0 to 1000000";
 
 pub const BURST: &str = "The most local instructions at a time, 1 to 1000000 [default: 256]";
 
-/// The option of `explore`.
+/// The options of `explore`.
 pub const WORLDS: &str = "The most worlds, 1 to 1000000000 [default: 1000000]";
+
+pub const BAD: &str = "What no order may have, as '* blocked'; up to 16 times";
 
 /// The forms of the command line, and the exit statuses.
 pub const FORMS: &str = "\
@@ -33,14 +35,20 @@ The forms of a command line:
       256 without the option. Writes the trace that came about, with `end quiet` where no process is
       ready at the end, `end limit` or `end memory`, or `refused LINE FAULT`.
       Example: zlab run pair.zls --workers 4 --limit 1000
-  zlab explore SCENARIO [--worlds N]
+  zlab explore SCENARIO [--worlds N] [--bad WORDS]..
       Takes the turns of the processes of the scenario in the file SCENARIO in each order, each up
       to its next call. Writes each end that is met: the states of all processes where none is
       ready, and below `by` a schedule that leads there. A schedule in SCENARIO is read, and doesn't
       count. The last line is `all W worlds T turns E ends`, `cut` in place of `all` where more than
       N worlds are met, 1 to 1000000000, 1000000 without the option, `memory` where memory was
       refused, or `refused LINE FAULT`.
+      WORDS, one word of the command line, say what no order may have; up to 16 times. They are
+      `PID CALL STATUS` for a call that is answered so, `PID CALL blocked` for one that waits,
+      `PID stuck` for an instruction that can't be done, and at an end `PID ended CODE`,
+      `PID blocked` or `PID created`, with `*` for any PID, CALL or STATUS. The search stops at the
+      first that it meets. The last line is `bad WORDS` then, below the schedule up to it.
       Example: zlab explore examples/locks-crosswise.zls --worlds 100000
+      Example: zlab explore examples/locks-crosswise.zls --bad '* blocked'
   zlab replay SCENARIO TRACE
       Does the steps of the trace in the file TRACE again, from the scenario in the file SCENARIO,
       which has no schedule. Writes `replayed N` for the number of its items, `differs N` for the
@@ -58,7 +66,7 @@ The forms of a command line:
 
 Exit status:
   0  the trace, image, help or all ends are written, the trace replayed, or the image accepted
-  1  the input is refused and its first faulty line or instruction named, or an item differs
+  1  the input is refused and its first fault named, an item differs, or `--bad` was met
   2  the words are in none of the forms
   3  reading or writing failed
   4  memory was refused

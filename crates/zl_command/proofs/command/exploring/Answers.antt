@@ -8,4 +8,5 @@ returns c =
     let worlds_is : rule_of c.required.result ≡ optional (numbered (codes "worlds") 1 1000000000)
     = ap rule_of c.required.ensures ∙ ap optional c.numbered-worlds.ensures.rule in
     let local = ap (λ a. a.global) c.required.ensures ∙ c.numbered-worlds.ensures.local in
-    IfOk-weaker c.arg-2.result _ _ (λ made added. added.shape local ∙ ap₂ with_rule first worlds_is) c.arg-2.ensures
+    let second = c.in_ok-arg-2.ensures.shape local ∙ ap₂ with_rule first worlds_is in
+    IfOk-weaker c.arg-3.result _ _ (λ made added. added.shape c.repeated.ensures.local ∙ ap₂ with_rule second c.repeated.ensures.rule) c.arg-3.ensures

@@ -1,13 +1,16 @@
 -- The text of a search over all orders of turns.
-use Rattle.std.specs.Prelude.{ℕ, ◌≡◌, nat_le, List, ◌++◌, codes, length, map, Option, if◌then◌else◌}
+use Rattle.std.specs.Prelude.{ℕ, ◌≡◌, nat_le, Bool, true, false, List, [], ◌∷◌, ◌++◌, codes, length, map, Option, None, Some, if◌then◌else◌}
 use Rattle.std.specs.Fmt.{decimal}
 use Rattle.std.specs.Io.KnownBytes.{Appends}
 use Rattle.std.specs.List.{flat_map}
 use Rattle.zl_code.specs.Common.{Library}
 use Rattle.zl_code.specs.Own.{OwnWorld}
 use Rattle.zl_code.specs.declared.history.ProcState.{ProcState}
+use Rattle.zl_explore.specs.Bad.{FitsOne, IsGoodEnd, NamesEnd, words_of}
 use Rattle.zl_explore.specs.Paths.{IsIn}
-use Rattle.zl_explore.specs.Searching.{AreAll, IsEnd}
+use Rattle.zl_explore.specs.Searching.{AreAll, HasNone, IsBadOrder, IsEnd, IsEndless}
+use Rattle.zl_explore.specs.declared.bad.Bad.{Bad}
+use Rattle.zl_explore.specs.declared.ends.BadTurn.{BadTurn}
 use Rattle.zl_explore.specs.declared.ends.End.{End as Told}
 use Rattle.zl_sched.specs.Follows.{turns_of}
 use Rattle.zl_trace.specs.Output.{AppendsBeginning}
@@ -34,10 +37,17 @@ by_line limit items = if nat_le items limit then codes "by\n" else (codes "by " 
 abbrev pub turn_line : ℕ × ℕ → List ℕ
 turn_line turn = decimal turn.0 ++ (codes " " ++ (decimal turn.1 ++ codes "\n"))
 
+-- the lines of a schedule
+abbrev pub schedule_text : (limit : ℕ) → List (ℕ × ℕ) → List ℕ
+schedule_text limit schedule = by_line limit (length (turns_of schedule)) ++ flat_map turn_line schedule
+
 -- the lines of an end
 abbrev pub end_text : (limit : ℕ) → End → List ℕ
-end_text limit e =
-    codes "end\n" ++ (flat_map (λ p. state_line p.0 p.1) e.states ++ (by_line limit (length (turns_of e.schedule)) ++ flat_map turn_line e.schedule))
+end_text limit e = codes "end\n" ++ (flat_map (λ p. state_line p.0 p.1) e.states ++ schedule_text limit e.schedule)
+
+-- the last line of a search that met what the pattern names
+abbrev pub bad_line : Bad → List ℕ
+bad_line b = codes "bad " ++ (words_of b ++ codes "\n")
 
 -- the last line: how far the search came, and what it counted
 abbrev pub last_line : List ℕ → (worlds turns ends : ℕ) → List ℕ
@@ -49,36 +59,63 @@ abbrev pub verdict_word : Verdict → List ℕ
 verdict_word verdict.Done = codes "all"
 verdict_word verdict.Cut = codes "cut"
 verdict_word verdict.Memory = codes "memory"
+verdict_word verdict.Bad = codes "bad"
 verdict_word verdict.Refused = codes "refused"
 
 -- ---- the text
 
--- what the last line says of the ends above it: `all` that every order that comes to an end comes to one of them
-abbrev pub Says : Verdict → Library → OwnWorld → List End → Type 0
-Says verdict.Done lib o ends = AreAll lib o (map (λ e. e.states) ends)
-Says verdict.Refused lib o ends = ⊥
-Says _ lib o ends = Unit {0}
+-- the line above the last one of a search that met all: an order leads where none comes to an end any more
+abbrev pub endless_line : Bool → List ℕ
+endless_line true = codes "endless\n"
+endless_line false = []
+
+-- whether own steps lead to a world from which none lead to an end
+abbrev pub SaysEndless : Bool → Library → OwnWorld → Type 0
+SaysEndless true lib o = IsEndless lib o
+SaysEndless false lib o = IsEndless lib o → ⊥
+
+-- every order that comes to an end comes to one of these, none of which a pattern names, and no order has an item that one names
+pub record SaysAll (lib : Library) (o : OwnWorld) (bad : List Bad) (ends : List End) : Type 0 where
+  pub all : AreAll lib o (map (λ e. e.states) ends)
+  pub none : HasNone lib o bad
+  pub good : (e : End) → IsIn ends e → IsGoodEnd bad e.states
+
+-- what a last line with counts says of the ends above it
+abbrev pub Says : Verdict → Bool → Library → OwnWorld → List Bad → List End → Type 0
+Says verdict.Done endless lib o bad ends = SaysAll lib o bad ends × SaysEndless endless lib o
+Says verdict.Cut false lib o bad ends = Unit {0}
+Says verdict.Memory false lib o bad ends = Unit {0}
+Says _ _ lib o bad ends = ⊥
+
+-- what stands behind the ends: counts, or the pattern that names what an order has, which is the last of these, or an item of the last
+-- turn of a schedule
+pub data Closes (lib : Library) (o : OwnWorld) (bad : List Bad) (limit : ℕ) (ends : List End) : Verdict → List ℕ → Type 0 where
+  counts : (v : Verdict) (endless : Bool) → Says v endless lib o bad ends → (worlds turns : ℕ)
+      → Closes lib o bad limit ends v (endless_line endless ++ last_line (verdict_word v) worlds turns (length ends))
+  bad_end : (b : Bad) → IsIn bad b → (before : List End) (e : End) → ends ≡ before ++ (e ∷ []) → FitsOne b e.states
+      → Closes lib o bad limit ends verdict.Bad (bad_line b)
+  bad_turn : (b : Bad) → IsIn bad b → (schedule : List (ℕ × ℕ)) → IsBadOrder lib o (turns_of schedule) b
+      → Closes lib o bad limit ends verdict.Bad (schedule_text limit schedule ++ bad_line b)
 
 -- the lines are those of a search over all orders from the world
-pub record IsSearchText (lib : Library) (o : OwnWorld) (limit : ℕ) (v : Verdict) (lines : List ℕ) : Type 0 where
+pub record IsSearchText (lib : Library) (o : OwnWorld) (bad : List Bad) (limit : ℕ) (v : Verdict) (lines : List ℕ) : Type 0 where
   pub ends : List End
   pub are_ends : (e : End) → IsIn ends e → IsEndFrom lib o e
-  pub says : Says v lib o ends
-  pub worlds : ℕ
-  pub turns : ℕ
-  pub are : lines ≡ flat_map (end_text limit) ends ++ last_line (verdict_word v) worlds turns (length ends)
+  pub rest : List ℕ
+  pub closes : Closes lib o bad limit ends v rest
+  pub are : lines ≡ flat_map (end_text limit) ends ++ rest
 
 -- the writer got them
-pub record WritesEnds (lib : Library) (o : OwnWorld) (limit : ℕ) (v : Verdict) (old new : Option (List ℕ)) : Type 0 where
+pub record WritesEnds (lib : Library) (o : OwnWorld) (bad : List Bad) (limit : ℕ) (v : Verdict) (old new : Option (List ℕ)) : Type 0 where
   pub lines : List ℕ
-  pub is_text : IsSearchText lib o limit v lines
+  pub is_text : IsSearchText lib o bad limit v lines
   pub written : Appends old new lines
 
 -- the writer got a beginning of such lines, or nothing
-pub data BeginsEnds (lib : Library) (o : OwnWorld) (limit : ℕ) (old : Option (List ℕ)) : Option (List ℕ) → Type 0 where
-  no_end : BeginsEnds lib o limit old old
-  some_ends : (v : Verdict) (lines : List ℕ) (new : Option (List ℕ)) → IsSearchText lib o limit v lines → AppendsBeginning old new lines
-      → BeginsEnds lib o limit old new
+pub data BeginsEnds (lib : Library) (o : OwnWorld) (bad : List Bad) (limit : ℕ) (old : Option (List ℕ)) : Option (List ℕ) → Type 0 where
+  no_end : BeginsEnds lib o bad limit old old
+  some_ends : (v : Verdict) (lines : List ℕ) (new : Option (List ℕ)) → IsSearchText lib o bad limit v lines → AppendsBeginning old new lines
+      → BeginsEnds lib o bad limit old new
 
 -- ---- what the parts of the engine do
 
@@ -88,14 +125,44 @@ pub record PushesEnd (limit : ℕ) (e : Told) (old new : List ℕ) : Type 0 wher
   pub turns : turns_of schedule ≡ e.turns.items
   pub is : new ≡ old ++ end_text limit (record { states = e.states.items; schedule = schedule })
 
+-- the lines of the turn were added, with a schedule of its turns
+pub record PushesTurn (limit : ℕ) (t : BadTurn) (old new : List ℕ) : Type 0 where
+  pub schedule : List (ℕ × ℕ)
+  pub turns : turns_of schedule ≡ t.turns.items
+  pub is : new ≡ old ++ (schedule_text limit schedule ++ bad_line t.bad)
+
 -- the writer got such a last line
-pub record WritesLast (word : List ℕ) (ends : ℕ) (old new : Option (List ℕ)) : Type 0 where
+pub record WritesLast (endless : Bool) (word : List ℕ) (ends : ℕ) (old new : Option (List ℕ)) : Type 0 where
   pub worlds : ℕ
   pub turns : ℕ
-  pub written : Appends old new (last_line word worlds turns ends)
+  pub written : Appends old new (endless_line endless ++ last_line word worlds turns ends)
 
 -- the writer got a beginning of such a line, or nothing
-pub record BeginsLast (word : List ℕ) (ends : ℕ) (old new : Option (List ℕ)) : Type 0 where
+pub record BeginsLast (endless : Bool) (word : List ℕ) (ends : ℕ) (old new : Option (List ℕ)) : Type 0 where
   pub worlds : ℕ
   pub turns : ℕ
-  pub begun : AppendsBeginning old new (last_line word worlds turns ends)
+  pub begun : AppendsBeginning old new (endless_line endless ++ last_line word worlds turns ends)
+
+-- the writer got the lines of the end, or also that a pattern names what one is in there, or only that memory was refused
+pub data WritesEnd (bad : List Bad) (limit : ℕ) (e : Told) (ends : ℕ) (old new : Option (List ℕ)) : Option Verdict → Type 0 where
+  good_end : (text : List ℕ) → PushesEnd limit e [] text → IsGoodEnd bad e.states.items → Appends old new text → WritesEnd bad limit e ends old new None
+  named_end : (text : List ℕ) → PushesEnd limit e [] text → (b : Bad) → NamesEnd bad e.states.items b → Appends old new (text ++ bad_line b)
+      → WritesEnd bad limit e ends old new (Some verdict.Bad)
+  no_end_written : WritesLast false (codes "memory") ends old new → WritesEnd bad limit e ends old new (Some verdict.Memory)
+
+-- the writer got a beginning of such lines, or nothing
+pub data BeginsEnd (bad : List Bad) (limit : ℕ) (e : Told) (ends : ℕ) (old new : Option (List ℕ)) : Type 0 where
+  good_end_begun : (text : List ℕ) → PushesEnd limit e [] text → AppendsBeginning old new text → BeginsEnd bad limit e ends old new
+  named_end_begun : (text : List ℕ) → PushesEnd limit e [] text → (b : Bad) → NamesEnd bad e.states.items b
+      → AppendsBeginning old new (text ++ bad_line b) → BeginsEnd bad limit e ends old new
+  no_end_begun : BeginsLast false (codes "memory") ends old new → BeginsEnd bad limit e ends old new
+
+-- the writer got the lines of the turn, or only that memory was refused
+pub data WritesTurn (limit : ℕ) (t : BadTurn) (ends : ℕ) (old new : Option (List ℕ)) : Verdict → Type 0 where
+  turn : (text : List ℕ) → PushesTurn limit t [] text → Appends old new text → WritesTurn limit t ends old new verdict.Bad
+  no_turn : WritesLast false (codes "memory") ends old new → WritesTurn limit t ends old new verdict.Memory
+
+-- the writer got a beginning of such lines, or nothing
+pub data BeginsTurn (limit : ℕ) (t : BadTurn) (ends : ℕ) (old new : Option (List ℕ)) : Type 0 where
+  turn_begun : (text : List ℕ) → PushesTurn limit t [] text → AppendsBeginning old new text → BeginsTurn limit t ends old new
+  no_turn_begun : BeginsLast false (codes "memory") ends old new → BeginsTurn limit t ends old new

@@ -5,6 +5,7 @@ use Rattle.zl_code.specs.Common.{Library, IsSound}
 use Rattle.zl_code.specs.Headline.{IsSizedBoot}
 use Rattle.zl_code.specs.OwnBoot.{own_boot}
 use Rattle.zl_calls.specs.World.{Machine, own_here}
+use Rattle.zl_explore.specs.declared.bad.Bad.{Bad}
 use Rattle.zl_scenario.specs.Causes.{cause_name}
 use Rattle.zl_scenario.specs.Reading.{Lists, AreAccepted}
 use Rattle.zl_scenario.specs.Reads.{IsRead}
@@ -20,9 +21,9 @@ use Rattle.zlab.specs.Engine.{IsFirstFault, IsTextOf}
 use Rattle.zlab.specs.Input.{FitsInput}
 use Rattle.zlab.specs.Text.{refused_line}
 
--- The lines are those of a search over all orders of the scenario in the text, from the lab's own boot world. Neither the text nor a line
+-- The lines are those of a search over all orders of the scenario in the text, from the lab's own boot world, for what no order may have. Neither the text nor a line
 -- of it is at fault; its schedule doesn't count.
-pub record IsSearchOf (text : List ℕ) (v : Verdict) (lines : List ℕ) : Type 0 where
+pub record IsSearchOf (text : List ℕ) (bad : List Bad) (v : Verdict) (lines : List ℕ) : Type 0 where
   pub fits : FitsInput text
   pub said : Scenario
   pub read : IsRead text (record { said = said; fault = None })
@@ -31,26 +32,26 @@ pub record IsSearchOf (text : List ℕ) (v : Verdict) (lines : List ℕ) : Type 
   pub programs : Lists said.programs library
   pub accepted : AreAccepted library
   pub boots : IsSizedBoot library said.statements (own_boot library said.statements).world
-  pub is_text : IsSearchText library (own_boot library said.statements) said.limit v lines
+  pub is_text : IsSearchText library (own_boot library said.statements) bad said.limit v lines
 
 -- the lines are the answer to the text
-pub data IsExplored (text : List ℕ) : Verdict → List ℕ → Type 0 where
-  ends : (v : Verdict) (lines : List ℕ) → IsSearchOf text v lines → IsExplored text v lines
-  refusal : (fault : LineFault) → IsFirstFault text fault → IsExplored text verdict.Refused (refused_line fault.line (cause_name fault.cause))
+pub data IsExplored (text : List ℕ) (bad : List Bad) : Verdict → List ℕ → Type 0 where
+  ends : (v : Verdict) (lines : List ℕ) → IsSearchOf text bad v lines → IsExplored text bad v lines
+  refusal : (fault : LineFault) → IsFirstFault text fault → IsExplored text bad verdict.Refused (refused_line fault.line (cause_name fault.cause))
 
 -- the writer got the answer to what a reader had
-pub record Explores (told : Option (List ℕ)) (v : Verdict) (old new : Option (List ℕ)) : Type 0 where
+pub record Explores (told : Option (List ℕ)) (bad : List Bad) (v : Verdict) (old new : Option (List ℕ)) : Type 0 where
   pub text : List ℕ
   pub is_text : IsTextOf told text
   pub lines : List ℕ
-  pub is_answer : IsExplored text v lines
+  pub is_answer : IsExplored text bad v lines
   pub written : Appends old new lines
 
 -- the writer got a beginning of such an answer, or nothing
-pub data BeginsExplored (told : Option (List ℕ)) (old : Option (List ℕ)) : Option (List ℕ) → Type 0 where
-  unexplored : BeginsExplored told old old
-  some_explored : (text : List ℕ) (v : Verdict) (lines : List ℕ) (new : Option (List ℕ)) → IsTextOf told text → IsExplored text v lines
-      → AppendsBeginning old new lines → BeginsExplored told old new
+pub data BeginsExplored (told : Option (List ℕ)) (bad : List Bad) (old : Option (List ℕ)) : Option (List ℕ) → Type 0 where
+  unexplored : BeginsExplored told bad old old
+  some_explored : (text : List ℕ) (v : Verdict) (lines : List ℕ) (new : Option (List ℕ)) → IsTextOf told text → IsExplored text bad v lines
+      → AppendsBeginning old new lines → BeginsExplored told bad old new
 
 -- ---- what the parts of the engine do
 

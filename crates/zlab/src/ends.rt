@@ -1,82 +1,194 @@
 //! The text of a search over all orders: each end with a schedule that leads there, and what was met.
-ghost use Rattle.std.specs.Prelude.{◌≡◌, ◌≢◌, ◌++◌, ◌∷◌, [], ◌≤◌, IfOk, IfErr, OnOk, OnErr, string_bytes};
+ghost use Rattle.std.specs.Prelude.{◌≡◌, ◌≢◌, ◌++◌, ◌∷◌, [], IfOk, IfErr, OnOk, OnErr, codes, false, string_bytes};
 ghost use Rattle.std.specs.List.{flat_map};
-ghost use Rattle.zl_calls.specs.World.{own_here};
+ghost use Rattle.zl_calls.specs.World.{Machine as MachineValue, own_here};
 ghost use Rattle.zl_explore.specs.Private.{IsStill};
+ghost use Rattle.zl_explore.specs.Searching.{BeganWith};
 ghost use Rattle.zl_sched.specs.Follows.{turns_of};
 ghost use Rattle.zl_trace.specs.Text.{state_line};
-ghost use Rattle.zlab.specs.Ends.{BeginsEnds, BeginsLast, PushesEnd, WritesEnds, WritesLast, by_line, turn_line, verdict_word};
+ghost use Rattle.zlab.specs.Ends.{BeginsEnd, BeginsEnds, BeginsLast, BeginsTurn, PushesEnd, PushesTurn, WritesEnd, WritesEnds, WritesLast, WritesTurn, bad_line, by_line, endless_line, turn_line, verdict_word};
 
 use crate::fault::{EngineFault, Verdict};
 use std::alloc::{AllocError, Global};
 use std::io::Write;
 use zl_calls::World;
 use zl_code::ProcState;
-use zl_explore::{End, Next, Search};
+use zl_explore::{Bad, BadTurn, End, Next, Search, named_end};
 use zl_rights::Pid;
 use zl_trace::{empty_block, push_state, write_all};
 
 /// Searches all orders of turns from the world on, and writes each end as it is met, and the last line. An
 /// end whose schedule is longer than `limit` says how long it is. There are no more than so many worlds.
+/// No order may have what the patterns name.
 ///
-/// `Done` comes where all orders are known, `Cut` where there would be more worlds, and `Memory` where
-/// memory is refused to the search. The world has to be as boots and own steps leave one.
+/// `Done` comes where all orders are known, `Bad` where one has what a pattern names, `Cut` where there would
+/// be more worlds, and `Memory` where memory is refused to the search. The world has to be as boots and own
+/// steps leave one.
 pub fn write_ends<W: Write>(
     alloc: Global,
     writer: &mut W,
     world: World,
+    bad: Vec<Bad>,
     limit: u64,
     worlds: usize,
 ) -> Result<Verdict, EngineFault>
     requires { IsStill (own_here world) }
-    ensures ok { IfOk result (λ verdict. WritesEnds world.programs (own_here world) limit verdict
-        (W.contents writer.old) (W.contents writer.new)) }
-    ensures err { OnErr result (BeginsEnds world.programs (own_here world) limit
+    ensures ok { IfOk result (λ verdict. WritesEnds world.programs (own_here world) bad.items limit
+        verdict (W.contents writer.old) (W.contents writer.new)) }
+    ensures err { OnErr result (BeginsEnds world.programs (own_here world) bad.items limit
         (W.contents writer.old) (W.contents writer.new)) }
     ensures fault { IfErr result (λ fault. fault ≢ EngineFault.Read) }
 {
     let mut text = empty_block(alloc)?;
-    let mut search = Search::new(alloc, world, worlds)?;
-    let mut ends = 0;
+    let mut search = Search::new(alloc, world, bad, worlds)?;
+    write_found(alloc, writer, &mut text, &mut search, limit)
+}
+
+/// Writes each end that the search meets, and the last line, each in place of what stands in the text.
+fn write_found<W: Write>(
+    alloc: Global,
+    writer: &mut W,
+    text: &mut String,
+    search: &mut Search,
+    limit: u64,
+) -> Result<Verdict, EngineFault>
+    requires { search.old.told ≡ [] }
+    ensures ok { IfOk result (λ verdict. (m : MachineValue) → IsStill (own_here m)
+        → BeganWith m search.old → WritesEnds m.programs (own_here m) search.old.bad limit
+        verdict (W.contents writer.old) (W.contents writer.new)) }
+    ensures err { OnErr result ((m : MachineValue) → IsStill (own_here m)
+        → BeganWith m search.old → BeginsEnds m.programs (own_here m) search.old.bad limit
+        (W.contents writer.old) (W.contents writer.new)) }
+    ensures fault { IfErr result (λ fault. fault ≢ EngineFault.Read) }
+{
     loop {
+        let ends = search.ends();
         let end = match search.next_end() {
             Next::End(end) => end,
-            Next::All => return write_last(writer, &mut text, &search, Verdict::Done, ends),
-            Next::Cut => return write_last(writer, &mut text, &search, Verdict::Cut, ends),
-            Next::Memory => return write_last(writer, &mut text, &search, Verdict::Memory, ends),
+            Next::Bad(turn) => return write_turn(alloc, writer, text, search, &turn, limit, ends),
+            Next::All { endless } => {
+                return write_last(writer, text, search, Verdict::Done, endless, ends);
+            }
+            Next::Cut => return write_last(writer, text, search, Verdict::Cut, false, ends),
+            Next::Memory => return write_memory(writer, text, search, ends),
         };
-        text.clear();
-        if push_end(alloc, &mut text, &end, limit).is_err() {
-            return write_last(writer, &mut text, &search, Verdict::Memory, ends);
-        }
-        match write_all(writer, text.as_bytes()) {
-            Ok(()) => ends += 1,
-            Err(_) => return Err(EngineFault::Write),
+        if let Some(verdict) = write_end(alloc, writer, text, search, &end, limit, ends)? {
+            return Ok(verdict);
         }
     }
 }
 
-/// Writes the last line, in place of what stands in the text.
+/// Writes an end behind so many others, in place of what stands in the text, and nothing else where it may be.
+/// Where a pattern names what one is in there, the last line comes behind it, and the verdict with it. Where
+/// memory is refused, the last line says so, and the end isn't written.
+fn write_end<W: Write>(
+    alloc: Global,
+    writer: &mut W,
+    text: &mut String,
+    search: &Search,
+    end: &End,
+    limit: u64,
+    ends: usize,
+) -> Result<Option<Verdict>, EngineFault>
+    ensures ok { IfOk result (WritesEnd search.now.bad limit end.now ends (W.contents writer.old)
+        (W.contents writer.new)) }
+    ensures err { OnErr result (BeginsEnd search.now.bad limit end.now ends
+        (W.contents writer.old) (W.contents writer.new)) }
+    ensures fault { IfErr result (λ fault. fault ≢ EngineFault.Read) }
+{
+    text.clear();
+    if push_end(alloc, text, end, limit).is_err() {
+        return Ok(Some(write_memory(writer, text, search, ends)?));
+    }
+    let Some(bad) = named_end(search.bad(), &end.states) else {
+        write_all(writer, text.as_bytes())?;
+        return Ok(None);
+    };
+    if push_bad(text, bad).is_err() {
+        return Ok(Some(write_memory(writer, text, search, ends)?));
+    }
+    write_all(writer, text.as_bytes())?;
+    Ok(Some(Verdict::Bad))
+}
+
+/// Writes a schedule whose last turn has what a pattern names, and the last line, behind so many ends and in
+/// place of what stands in the text. Where memory is refused, the last line alone says so.
+fn write_turn<W: Write>(
+    alloc: Global,
+    writer: &mut W,
+    text: &mut String,
+    search: &Search,
+    turn: &BadTurn,
+    limit: u64,
+    ends: usize,
+) -> Result<Verdict, EngineFault>
+    ensures ok { IfOk result (WritesTurn limit turn.now ends (W.contents writer.old)
+        (W.contents writer.new)) }
+    ensures err { OnErr result (BeginsTurn limit turn.now ends (W.contents writer.old)
+        (W.contents writer.new)) }
+    ensures fault { IfErr result (λ fault. fault ≢ EngineFault.Read) }
+{
+    text.clear();
+    if push_turn(alloc, text, turn, limit).is_err() {
+        return write_memory(writer, text, search, ends);
+    }
+    write_all(writer, text.as_bytes())?;
+    Ok(Verdict::Bad)
+}
+
+/// Writes the last line of a search that wants memory, in place of what stands in the text.
+fn write_memory<W: Write>(
+    writer: &mut W,
+    text: &mut String,
+    search: &Search,
+    ends: usize,
+) -> Result<Verdict, EngineFault>
+    ensures verdict { IfOk result (λ ended. ended ≡ Verdict.Memory) }
+    ensures ok { OnOk result (WritesLast false (codes "memory") ends (W.contents writer.old)
+        (W.contents writer.new)) }
+    ensures err { OnErr result (BeginsLast false (codes "memory") ends (W.contents writer.old)
+        (W.contents writer.new)) }
+    ensures fault { IfErr result (λ fault. fault ≢ EngineFault.Read) }
+{
+    write_last(writer, text, search, Verdict::Memory, false, ends)
+}
+
+/// Writes the last line, in place of what stands in the text, below a line that says whether an order may go
+/// on for ever.
 fn write_last<W: Write>(
     writer: &mut W,
     text: &mut String,
     search: &Search,
     verdict: Verdict,
+    endless: bool,
     ends: usize,
 ) -> Result<Verdict, EngineFault>
     ensures verdict { IfOk result (λ ended. ended ≡ verdict) }
-    ensures ok { OnOk result (WritesLast (verdict_word verdict) ends (W.contents writer.old)
+    ensures ok { OnOk result (WritesLast endless (verdict_word verdict) ends (W.contents writer.old)
         (W.contents writer.new)) }
-    ensures err { OnErr result (BeginsLast (verdict_word verdict) ends (W.contents writer.old)
+    ensures err { OnErr result (BeginsLast endless (verdict_word verdict) ends (W.contents writer.old)
         (W.contents writer.new)) }
     ensures fault { IfErr result (λ fault. fault ≢ EngineFault.Read) }
 {
     text.clear();
     let (worlds, turns) = (search.worlds(), search.turns());
-    let word = verdict_word(verdict);
-    write!(text, "{word} {worlds} worlds {turns} turns {ends} ends\n")?;
+    let (above, word) = (endless_line(endless), verdict_word(verdict));
+    write!(
+        text,
+        "{above}{word} {worlds} worlds {turns} turns {ends} ends\n"
+    )?;
     write_all(writer, text.as_bytes())?;
     Ok(verdict)
+}
+
+/// The line above the last one, if an order may go on for ever.
+fn endless_line(endless: bool) -> &'static str
+    ensures { result.now ≡ endless_line endless }
+{
+    if endless {
+        return "endless\n";
+    }
+    ""
 }
 
 /// The word that says how far a search came.
@@ -87,6 +199,7 @@ fn verdict_word(verdict: Verdict) -> &'static str
         Verdict::Done => "all",
         Verdict::Cut => "cut",
         Verdict::Memory => "memory",
+        Verdict::Bad => "bad",
         Verdict::Refused => "refused",
     }
 }
@@ -101,6 +214,27 @@ fn push_end(alloc: Global, text: &mut String, end: &End, limit: u64) -> Result<(
     push_states(text, &end.states)?;
     push_by(text, end.turns.len() as u64, limit)?;
     push_schedule(text, &schedule)
+}
+
+/// Adds the schedule of a turn that no order may have, and the last line behind it. Where memory is refused, a
+/// beginning of them may stand there.
+fn push_turn(alloc: Global, text: &mut String, turn: &BadTurn, limit: u64) -> Result<(), AllocError>
+    ensures { OnOk result (PushesTurn limit turn.now (string_bytes text.old)
+        (string_bytes text.new)) }
+{
+    let schedule = grouped(alloc, &turn.turns)?;
+    push_by(text, turn.turns.len() as u64, limit)?;
+    push_schedule(text, &schedule)?;
+    push_bad(text, turn.bad)
+}
+
+/// Adds the last line of a search that met what a pattern names.
+fn push_bad(text: &mut String, bad: Bad) -> Result<(), AllocError>
+    ensures { OnOk result (string_bytes text.new ≡ string_bytes text.old ++ bad_line bad) }
+{
+    text.push_str("bad ")?;
+    bad.push_words(text)?;
+    text.push_str("\n")
 }
 
 /// Adds the line of each process.

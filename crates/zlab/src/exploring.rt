@@ -12,6 +12,7 @@ use crate::input::{Input, read_input};
 use std::alloc::Global;
 use std::io::{Read, Write};
 use zl_calls::World;
+use zl_explore::Bad;
 use zl_hints::{STANDARD_INPUT, explain_scenario};
 use zl_scenario::{LineFault, Reading, Scenario, read_scenario};
 
@@ -31,10 +32,11 @@ pub enum Begun {
 /// Each end that is written has a schedule, along which the lab's own steps lead from the lab's boot world
 /// to a world in which nobody is ready, and in which the processes are in the states that stand there. A
 /// last line with `all`, by which it is `Done`, comes only where every order of such steps, of any length,
-/// that comes to a world in which nobody is ready comes to the states of one of those ends. It is `Cut`
-/// where there would be more than `worlds` worlds, and `Memory` where memory was refused. No more is read
-/// than one byte past 4,194,304. To `hints` it adds for a person why the input is refused, or why the
-/// search isn't whole.
+/// that comes to a world in which nobody is ready comes to the states of one of those ends, and no order has
+/// what one of the patterns names. It is `Bad` where one has, with a schedule that leads there, `Cut` where
+/// there would be more than `worlds` worlds, and `Memory` where memory was refused. No more is read than one
+/// byte past 4,194,304. To `hints` it adds for a person why the input is refused, or why the search isn't
+/// whole.
 /// A fault of the reader is `Read`, with nothing written. A fault of the writer, and a want of memory
 /// before the search begins, leave nothing or a beginning of such an answer.
 pub fn explore_engine<R: Read, W: Write>(
@@ -42,12 +44,13 @@ pub fn explore_engine<R: Read, W: Write>(
     reader: &mut R,
     writer: &mut W,
     hints: &mut String,
+    bad: Vec<Bad>,
     worlds: u32,
 ) -> Result<Verdict, EngineFault>
-    ensures ok { IfOk result (λ verdict. Explores (R.remaining reader.old) verdict
+    ensures ok { IfOk result (λ verdict. Explores (R.remaining reader.old) bad.items verdict
         (W.contents writer.old) (W.contents writer.new)) }
-    ensures err { OnErr result (BeginsExplored (R.remaining reader.old) (W.contents writer.old)
-        (W.contents writer.new)) }
+    ensures err { OnErr result (BeginsExplored (R.remaining reader.old) bad.items
+        (W.contents writer.old) (W.contents writer.new)) }
     ensures read { IfErr result (λ fault. fault ≡ EngineFault.Read → W.contents writer.new
         ≡ W.contents writer.old) }
     ensures taken { TakesNoMore (R.remaining reader.old) (R.remaining reader.new) }
@@ -55,7 +58,7 @@ pub fn explore_engine<R: Read, W: Write>(
     let input = read_input(alloc, reader)?;
     match begin(alloc, &input, hints)? {
         Begun::World(world, limit) => {
-            let ended = write_ends(alloc, writer, world, limit, worlds as usize);
+            let ended = write_ends(alloc, writer, world, bad, limit, worlds as usize);
             explain_search(hints, &ended, worlds);
             ended
         }

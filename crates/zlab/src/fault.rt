@@ -51,6 +51,8 @@ pub enum Verdict {
     Refused,
     /// A search met as many worlds as it may, and isn't whole; what it found is written.
     Cut,
+    /// An order has what a search was to look for; the search stopped there, and what it found is written.
+    Bad,
     /// Memory was refused to a search, which isn't whole; what it found is written.
     Memory,
 }

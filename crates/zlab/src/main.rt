@@ -28,7 +28,7 @@ mod text;
 mod told;
 
 use fault::{EngineFault, Verdict};
-use std::alloc::AllocError;
+use std::alloc::{AllocError, Global};
 use std::process::ExitCode;
 use std::rt::{Env, Files};
 use std::sync::Wait;
@@ -37,7 +37,8 @@ use std::{env, io};
 use tasks::{assemble, check, explore, replay, run_threads, show, step, step_files};
 use thiserror::Error;
 use zl_command::{Asked, Task, WordFault};
-use zl_hints::explain_words;
+use zl_explore::{Bad, read_bad};
+use zl_hints::{explain_bad, explain_words};
 
 /// Why the program ends without an answer.
 #[derive(Debug, Drop, Error)]
@@ -67,7 +68,7 @@ fn main(rt: HostRuntime) -> ExitCode {
             };
             match verdict {
                 Verdict::Done => ExitCode::SUCCESS,
-                Verdict::Refused => ExitCode::from(1),
+                Verdict::Refused | Verdict::Bad => ExitCode::from(1),
                 Verdict::Memory => ExitCode::from(4),
                 Verdict::Cut => ExitCode::from(5),
             }
@@ -120,9 +121,37 @@ fn run<R: AllocGlobal + Env + Files + Input + Print + Threads + Wait + Sync>(
             },
         ) => run_threads(rt, hints, scenario, workers, limit, burst),
         Asked::Task(Task::Replay { scenario, trace }) => replay(rt, hints, scenario, trace),
-        Asked::Task(Task::Explore { scenario, worlds }) => explore(rt, hints, scenario, worlds),
+        Asked::Task(
+            Task::Explore {
+                scenario,
+                worlds,
+                bad,
+            },
+        ) => {
+            let bad = patterns(rt.alloc(), hints, &bad)?;
+            explore(rt, hints, scenario, bad, worlds)
+        }
     };
     Ok(ended?)
+}
+
+/// The patterns with these words; words that are none are a wrong command line.
+fn patterns(alloc: Global, hints: &mut String, words: &[&str]) -> Result<Vec<Bad>, WordFault> {
+    let mut bad = Vec::with_capacity(alloc, words.len())?;
+    for one in words {
+        match read_bad(alloc, one)? {
+            Some(pattern) => {
+                let Ok(()) = bad.push(pattern) else {
+                    return Err(WordFault::NoMemory);
+                };
+            }
+            None => {
+                explain_bad(hints, alloc, one.as_bytes());
+                return Err(WordFault::Usage);
+            }
+        }
+    }
+    Ok(bad)
 }
 
 /// The program's name and the words after it.

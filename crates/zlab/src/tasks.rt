@@ -18,6 +18,7 @@ use std::rt::Files;
 use std::sync::Wait;
 use std::thread::Threads;
 use std::{fs, io};
+use zl_explore::Bad;
 use zl_hints::{explain_failure, explain_opening};
 
 const INPUT: &str = "standard input";
@@ -135,17 +136,18 @@ pub fn run_threads<R: AllocGlobal + Files + Print + Threads + Wait + Sync>(
     answer_with(hints, ended, &reader, &writer)
 }
 
-/// Searches all orders of the scenario in the file, over so many worlds at most, and answers on standard
-/// output.
+/// Searches all orders of the scenario in the file, over so many worlds at most and for what none may have,
+/// and answers on standard output.
 pub fn explore<R: AllocGlobal + Files + Print>(
     rt: &R,
     hints: &mut String,
     scenario: &str,
+    bad: Vec<Bad>,
     worlds: u32,
 ) -> Result<Verdict, EngineFault> {
     let mut reader = Told::new(scenario, open(rt, hints, scenario)?);
     let mut writer = Told::new(OUTPUT, io::writer(rt));
-    let ended = explore_engine(rt.alloc(), &mut reader, &mut writer, hints, worlds);
+    let ended = explore_engine(rt.alloc(), &mut reader, &mut writer, hints, bad, worlds);
     answer_with(hints, ended, &reader, &writer)
 }
 

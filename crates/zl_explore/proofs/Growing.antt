@@ -162,7 +162,8 @@ module _ {S : Type 0} (ready : S → List ℕ) (next : S → ℕ → S) where
   unfolding AreWidened
   widened_none nodes = λ i n below there. absurd (omega (arith, below))
 
-  pub widened_all : (nodes : List (Node S)) (count : ℕ) → length nodes ≤ count → AreWidened ready next nodes count → AreWidened ready next nodes (length nodes)
+  pub widened_all : (nodes : List (Node S)) (count : ℕ) → length nodes ≤ count → AreWidened ready next nodes count → AreWidened ready next nodes
+      (length nodes)
   unfolding AreWidened
   widened_all nodes count enough widened = λ i n below there. widened i n (omega (arith, below, enough)) there
 

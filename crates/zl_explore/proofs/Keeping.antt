@@ -239,7 +239,8 @@ end_at nodes place end n read =
 pub end_told : (old new : Kept) → IsWhole old → (end : IsEndAt old.nodes.items old.widened) (e : End) (turns : List ℕ)
     → e.states.items ≡ told_in (own_here end.node.at) → LeadsTo ready_of reduced old.nodes.items 0 old.widened turns
     → Takes old.root [] e.turns.items (after ready_of reduced (start_of old.root) turns) → new.root ≡ old.root → new.bad ≡ old.bad → new.nodes ≡ old.nodes
-    → new.course ≡ old.course → new.widened ≡ old.widened + 1 → new.most ≡ old.most → told_of new ≡ told_of old ++ (e.states.items ∷ []) → Goes old (Some (next.End e)) new
+    → new.course ≡ old.course → new.widened ≡ old.widened + 1 → new.most ≡ old.most → told_of new ≡ told_of old ++ (e.states.items ∷ []) → Goes old
+    (Some (next.End e)) new
 end_told old new whole end e turns states leads takes root bad nodes course widened most told = record {
   whole = whole_ended old new whole root bad (λ i. (nodes i).items) course widened end
       (subst (AreTold old.nodes.items old.widened) (sym told) (told_more old.nodes.items old.widened (told_of old) whole.told e.states.items))
@@ -256,7 +257,8 @@ end_told old new whole end e turns states leads takes root bad nodes course wide
 
 -- an item that may not be
 pub bad_told : (k : Kept) → IsWhole k → (pid : ℕ) (one : Bad) → (at : IsBadTurnAt ready_of told_at k.bad.items k.nodes.items k.widened pid one)
-    → (turns taken : List ℕ) → LeadsTo ready_of reduced k.nodes.items 0 k.widened turns → Takes k.root [] taken (after ready_of reduced (start_of k.root) turns)
+    → (turns taken : List ℕ) → LeadsTo ready_of reduced k.nodes.items 0 k.widened turns → Takes k.root [] taken (after ready_of reduced (start_of
+    k.root) turns)
     → (b : BadTurn) → b.turns.items ≡ taken ++ (pid ∷ []) → b.bad ≡ one → Leads (Some (next.Bad b)) (search_of k)
 bad_told k whole pid one at turns taken leads takes b items same = record {
   is_in = subst (λ (x : Bad). IsIn k.bad.items x) (sym same) at.names.is_in;

@@ -30,6 +30,7 @@ module _ {S : Type 0} (ready : S → List ℕ) (tells : S → ℕ → Option Tra
 abbrev pub Widens : {S : Type 0} → (S → List ℕ) → (S → ℕ → S) → (S → ℕ → Option TraceItem) → List Bad → (old : List (Node S)) → (place : ℕ)
     → (new : List (Node S)) → Widened → Type 0
 Widens ready next tells bad old place new widened.All =
-    (AreWidened ready next old place → AreWidened ready next new (place + 1)) × (AreQuiet ready tells bad old place → AreQuiet ready tells bad new (place + 1))
+    (AreWidened ready next old place → AreWidened ready next new (place + 1)) × (AreQuiet ready tells bad old place → AreQuiet ready tells bad new
+    (place + 1))
 Widens ready next tells bad old place new widened.Full = Unit {0}
 Widens ready next tells bad old place new (widened.Bad pid b) = IsBadTurnAt ready tells bad old place pid b

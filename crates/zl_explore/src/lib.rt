@@ -2,8 +2,9 @@
 //!
 //! It stands on `zl_calls`, for the world and its steps, on `zl_interp`, for local instructions in a row,
 //! and on `zl_code` and `zl_rights`. It promises that the lab's own steps lead to each end that it tells, by
-//! the turns that come with it, and that, where it says that it told all, every order of own steps that
-//! comes to an end comes to one of them.
+//! the turns that come with it, and to each item that none may have, and that, where it says that it told
+//! all, every order of own steps that comes to an end comes to one of them, none has such an item, and one
+//! leads to where none comes to an end just if it says so.
 #![tactic(auto)]
 
 mod ahead;

@@ -6,7 +6,8 @@ use Rattle.zl_explore.proofs.bad.named_item.Goals as goal
 
 pub loop-one-preserved : goal.loop-one-preserved
 loop-one-preserved c =
-    none_more c.args.bad.now (λ b. Fits b c.in_ok-item.item) c.loop-one.one-index _ (slice_get-get_or c.args.bad.now c.loop-one.one-index _ c.loop-one-test.true)
+    none_more c.args.bad.now (λ b. Fits b c.in_ok-item.item) c.loop-one.one-index _ (slice_get-get_or c.args.bad.now c.loop-one.one-index _
+    c.loop-one-test.true)
     (λ fits. false≢true ((c.if-names.ensures {u = tt}).1 fits)) c.loop-one.invariant
 
 pub returns-clause-none : goal.returns-clause-none

@@ -51,7 +51,11 @@ loop-n-preserved c =
       c.loop-n.invariant.2,
       λ none. closed_more edges marks c.loop-n.n c.loop-n-test.true c.loop-n.auto.n
           (λ is. elim c.else-marks-to.branch [
-            | else-marks-to-via-then-marks-to+else-not-marks-from w ↦ marked_at marks (edge_at edges n).0 (omega (arith, both.0, c.loop-n.auto.marks)) w.if-not-marks-from.false
+            | else-marks-to-via-then-marks-to+else-not-marks-from w ↦ marked_at marks (edge_at edges n).0 (omega (
+              arith,
+              both.0,
+              c.loop-n.auto.marks,
+            )) w.if-not-marks-from.false
             | else-marks-to-via-else-marks-to w ↦ absurd (false≢true (sym w.if-marks-to.false ∙ marked_so marks (edge_at edges n).1 is))
           ])
           (c.loop-n.invariant.3 none),

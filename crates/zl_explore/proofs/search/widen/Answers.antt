@@ -12,20 +12,26 @@ loop-pid-init g c = (grows_none _ _ _ _ _ _ refl, λ n i p there below. absurd (
 
 pub loop-pid-preserved : goal.loop-pid-preserved
 loop-pid-preserved g c = (
-  grown _ _ g.M.Machine.tells c.args.nodes.now.items c.args.place c.args.pids.now c.requires.within c.requires.ready c.loop-pid.pid-index c.loop-pid-test.true c.loop-pid.nodes.items
-      c.loop-pid.invariant.0 c.index.result.now c.index.ensures c.in_ok-copy.field-0 c.in_ok-at.at c.in_ok-copy.ensures c.in_ok-at.told c.in_ok-at.ensures.next c.place_of.new.nodes.items
+  grown _ _ g.M.Machine.tells c.args.nodes.now.items c.args.place c.args.pids.now c.requires.within c.requires.ready c.loop-pid.pid-index
+      c.loop-pid-test.true c.loop-pid.nodes.items
+      c.loop-pid.invariant.0 c.index.result.now c.index.ensures c.in_ok-copy.field-0 c.in_ok-at.at c.in_ok-copy.ensures c.in_ok-at.told
+      c.in_ok-at.ensures.next c.place_of.new.nodes.items
       c.in-Some-2.target (rw c.in-Some-2.is at (c.in_ok-target.ensures {u = tt}).some),
-  heard _ _ g.M.Machine.tells c.args.nodes.now.items c.args.place c.args.pids.now c.requires.within c.requires.ready c.loop-pid.pid-index c.loop-pid-test.true c.loop-pid.nodes.items
+  heard _ _ g.M.Machine.tells c.args.nodes.now.items c.args.place c.args.pids.now c.requires.within c.requires.ready c.loop-pid.pid-index
+      c.loop-pid-test.true c.loop-pid.nodes.items
       c.loop-pid.invariant.0 c.index.result.now c.index.ensures c.in_ok-copy.field-0 c.in_ok-at.at c.in_ok-copy.ensures c.in_ok-at.told
       c.in_ok-at.ensures.told c.args.bad.now c.in_default.ensures.none c.loop-pid.invariant.1,
-  edged _ _ g.M.Machine.tells c.args.nodes.now.items c.args.place c.args.pids.now c.requires.within c.requires.ready c.loop-pid.pid-index c.loop-pid-test.true c.loop-pid.nodes.items
-      c.loop-pid.invariant.0 c.index.result.now c.index.ensures c.in_ok-copy.field-0 c.in_ok-at.at c.in_ok-copy.ensures c.in_ok-at.told c.in_ok-at.ensures.next c.place_of.new.nodes.items
+  edged _ _ g.M.Machine.tells c.args.nodes.now.items c.args.place c.args.pids.now c.requires.within c.requires.ready c.loop-pid.pid-index
+      c.loop-pid-test.true c.loop-pid.nodes.items
+      c.loop-pid.invariant.0 c.index.result.now c.index.ensures c.in_ok-copy.field-0 c.in_ok-at.at c.in_ok-copy.ensures c.in_ok-at.told
+      c.in_ok-at.ensures.next c.place_of.new.nodes.items
       c.in-Some-2.target (rw c.in-Some-2.is at (c.in_ok-target.ensures {u = tt}).some)
       c.args.course.now.edges.items c.loop-pid.course.edges.items c.loop-pid.invariant.2 c.push.new.self.items (c.in_ok-push.ensures {u = tt}).items,
 )
 
 pub returns-in-Some-clause-widens : goal.returns-in-Some-clause-widens
-returns-in-Some-clause-widens g c = bad_here _ _ g.M.Machine.tells c.args.nodes.now.items c.args.place c.args.pids.now c.requires.within c.requires.ready c.loop-pid.pid-index c.loop-pid-test.true c.loop-pid.nodes.items
+returns-in-Some-clause-widens g c = bad_here _ _ g.M.Machine.tells c.args.nodes.now.items c.args.place c.args.pids.now c.requires.within
+    c.requires.ready c.loop-pid.pid-index c.loop-pid-test.true c.loop-pid.nodes.items
     c.loop-pid.invariant.0 c.index.result.now c.index.ensures c.in_ok-copy.field-0 c.in_ok-at.at c.in_ok-copy.ensures c.in_ok-at.told
     c.in_ok-at.ensures.told c.args.bad.now c.in-Some.one (c.in-Some.ensures {u = tt}).some
 
@@ -35,21 +41,29 @@ returns-in_err-target-clause-tree g c start tree =
 
 pub returns-in_default-2-clause-tree : goal.returns-in_default-2-clause-tree
 returns-in_default-2-clause-tree g c start tree =
-    subst (IsTree g.M.Machine.ready g.M.Machine.next start) (sym (rw c.in_default-2.is at (c.in_ok-target.ensures {u = tt}).none)) (c.loop-pid.invariant.0.tree start tree)
+    subst (IsTree g.M.Machine.ready g.M.Machine.next start) (sym (rw c.in_default-2.is at (c.in_ok-target.ensures {u = tt}).none))
+    (c.loop-pid.invariant.0.tree start tree)
 
 pub returns-in_err-push-clause-tree : goal.returns-in_err-push-clause-tree
-returns-in_err-push-clause-tree g c = (grown _ _ g.M.Machine.tells c.args.nodes.now.items c.args.place c.args.pids.now c.requires.within c.requires.ready c.loop-pid.pid-index c.loop-pid-test.true c.loop-pid.nodes.items
-    c.loop-pid.invariant.0 c.index.result.now c.index.ensures c.in_ok-copy.field-0 c.in_ok-at.at c.in_ok-copy.ensures c.in_ok-at.told c.in_ok-at.ensures.next c.place_of.new.nodes.items
+returns-in_err-push-clause-tree g c = (grown _ _ g.M.Machine.tells c.args.nodes.now.items c.args.place c.args.pids.now c.requires.within
+    c.requires.ready c.loop-pid.pid-index c.loop-pid-test.true c.loop-pid.nodes.items
+    c.loop-pid.invariant.0 c.index.result.now c.index.ensures c.in_ok-copy.field-0 c.in_ok-at.at c.in_ok-copy.ensures c.in_ok-at.told
+    c.in_ok-at.ensures.next c.place_of.new.nodes.items
     c.in-Some-2.target (rw c.in-Some-2.is at (c.in_ok-target.ensures {u = tt}).some)).tree
 
 pub returns-in_err-push-clause-extends : goal.returns-in_err-push-clause-extends
-returns-in_err-push-clause-extends g c = grows_extends _ _ _ _ _ _ _ (grown _ _ g.M.Machine.tells c.args.nodes.now.items c.args.place c.args.pids.now c.requires.within c.requires.ready c.loop-pid.pid-index c.loop-pid-test.true c.loop-pid.nodes.items
-    c.loop-pid.invariant.0 c.index.result.now c.index.ensures c.in_ok-copy.field-0 c.in_ok-at.at c.in_ok-copy.ensures c.in_ok-at.told c.in_ok-at.ensures.next c.place_of.new.nodes.items
+returns-in_err-push-clause-extends g c = grows_extends _ _ _ _ _ _ _ (grown _ _ g.M.Machine.tells c.args.nodes.now.items c.args.place c.args.pids.now
+    c.requires.within c.requires.ready c.loop-pid.pid-index c.loop-pid-test.true c.loop-pid.nodes.items
+    c.loop-pid.invariant.0 c.index.result.now c.index.ensures c.in_ok-copy.field-0 c.in_ok-at.at c.in_ok-copy.ensures c.in_ok-at.told
+    c.in_ok-at.ensures.next c.place_of.new.nodes.items
     c.in-Some-2.target (rw c.in-Some-2.is at (c.in_ok-target.ensures {u = tt}).some))
 
 pub returns-in_err-push-clause-edges : goal.returns-in_err-push-clause-edges
-returns-in_err-push-clause-edges g c are = subst (AreEdges g.M.Machine.ready g.M.Machine.next c.place_of.new.nodes.items) (sym (c.in_err-push.ensures {u = tt}).items) (unedged _ _ g.M.Machine.tells c.args.nodes.now.items c.args.place c.args.pids.now c.requires.within c.requires.ready c.loop-pid.pid-index c.loop-pid-test.true c.loop-pid.nodes.items
-    c.loop-pid.invariant.0 c.index.result.now c.index.ensures c.in_ok-copy.field-0 c.in_ok-at.at c.in_ok-copy.ensures c.in_ok-at.told c.in_ok-at.ensures.next c.place_of.new.nodes.items
+returns-in_err-push-clause-edges g c are = subst (AreEdges g.M.Machine.ready g.M.Machine.next c.place_of.new.nodes.items) (sym (c.in_err-push.ensures
+    {u = tt}).items) (unedged _ _ g.M.Machine.tells c.args.nodes.now.items c.args.place c.args.pids.now c.requires.within c.requires.ready
+    c.loop-pid.pid-index c.loop-pid-test.true c.loop-pid.nodes.items
+    c.loop-pid.invariant.0 c.index.result.now c.index.ensures c.in_ok-copy.field-0 c.in_ok-at.at c.in_ok-copy.ensures c.in_ok-at.told
+    c.in_ok-at.ensures.next c.place_of.new.nodes.items
     c.in-Some-2.target (rw c.in-Some-2.is at (c.in_ok-target.ensures {u = tt}).some)
     c.args.course.now.edges.items c.loop-pid.course.edges.items c.loop-pid.invariant.2 are)
 

@@ -9,7 +9,8 @@ use Rattle.zl_explore.proofs.kept.Kept.all.Goals as goal
 pub endless_place-requires : goal.endless_place-requires
 endless_place-requires c =
     subst (λ (edges : List (ℕ × ℕ)). AreWithin edges c.len.result) (sym c.deref.ensures.value)
-    (subst (AreWithin c.args.self.now.course.edges.items) (sym (c.len.ensures ∙ c.args.self.now.nodes.ok.0)) (all_within c.args.self.now c.requires.whole c.requires.enough))
+    (subst (AreWithin c.args.self.now.course.edges.items) (sym (c.len.ensures ∙ c.args.self.now.nodes.ok.0)) (all_within c.args.self.now
+    c.requires.whole c.requires.enough))
 
 pub returns-in-Ok-clause-all : goal.returns-in-Ok-clause-all
 returns-in-Ok-clause-all c = all_here c.args.self.now c.requires.whole c.requires.enough c.is_some.result

@@ -12,7 +12,8 @@ returns-in-Ok-All c =
     let there : slice_get c.args.self.now.nodes.items c.args.self.now.widened ≡ Some n =
     slice_get_read c.args.self.now.nodes.items _ c.args.self.now.widened n refl c.requires.more c.index.ensures in
     let filled : 0 < length c.in-Ok.pids.items = grind (arith, nat_tests, c.if-is_empty.false, c.is_empty.ensures) in record {
-      whole = whole_widened _ _ c.requires.whole refl refl c.widen.ensures.tree c.widen.ensures.edges c.widen.ensures.more_edges c.widen.ensures.extends refl refl
+      whole = whole_widened _ _ c.requires.whole refl refl c.widen.ensures.tree c.widen.ensures.edges c.widen.ensures.more_edges
+          c.widen.ensures.extends refl refl
           widens.0 widens.1 (rw c.in-Ok-All.field-0-is at told.have_edges) n there
           (λ none. omega (arith, filled, ap length (c.in-Ok.ensures {u = tt} ∙ none)));
       root = refl;

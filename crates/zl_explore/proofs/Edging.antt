@@ -7,7 +7,7 @@ use mathlib.Core.Logic.{inl, inr}
 use Rattle.zl_explore.specs.Edges.{AreEdges, HasEdge, HaveEdges, IsEdge, TurnsHaveEdges}
 use Rattle.zl_explore.specs.Nodes.{Extends}
 use Rattle.zl_explore.specs.Paths.{IsIn}
-use Rattle.zl_explore.specs.declared.search.Node.{Node}
+use Rattle.zl_explore.specs.declared.met.Node.{Node}
 use Rattle.zl_explore.proofs.Lists.{get_below, get_either, get_last, get_left}
 
 pub extends_none : {X : Type 0} (xs : List X) → Extends xs xs

@@ -5,7 +5,7 @@ use Rattle.zl_explore.specs.Edges.{AreEdges, Comes, HaveEdges, at_last, by_one}
 use Rattle.zl_explore.specs.Marks.{AreWithin}
 use Rattle.zl_explore.specs.Nodes.{IsTree}
 use Rattle.zl_explore.specs.Paths.{IsIn, IsPath, IsReached, after}
-use Rattle.zl_explore.specs.declared.search.Node.{Node}
+use Rattle.zl_explore.specs.declared.met.Node.{Node}
 
 nobody_in : (xs : List ℕ) → ((p : ℕ) → IsIn xs p → ⊥) → xs ≡ []
 nobody_in [] none = refl

@@ -14,12 +14,6 @@ module _ {S : Type 0} (ready : S → List ℕ) (next : S → ℕ → S) where
   path_both [] more s path rest = (rest, refl)
   path_both (p ∷ turns) more s path rest = let both = path_both turns more (next s p) path.1 rest in ((path.0, both.0), both.1)
 
-  -- one turn more
-  pub after_more : (turns : List ℕ) (s : S) (p : ℕ) → after ready next s (turns ++ (p ∷ [])) ≡ next (after ready next s turns) p
-  unfolding after
-  after_more [] s p = refl
-  after_more (q ∷ turns) s p = after_more turns (next s q) p
-
   -- one more goes ahead
   pub ahead_more : (is_private : S → ℕ → Bool) (most : ℕ) (ps : List ℕ) (s : S) (p : ℕ) → all_ahead next is_private most s (ps ++ (p ∷ []))
       ≡ gone_ahead next is_private most (all_ahead next is_private most s ps) p

@@ -6,8 +6,8 @@ use Rattle.std.proofs.lemmas.List.{append_assoc}
 use Rattle.std.proofs.lemmas.Bool.{cases_lt}
 use mathlib.Core.Logic.{inl, inr}
 use Rattle.zl_explore.specs.Paths.{IsIn}
-use Rattle.zl_explore.specs.Nodes.{IsMet, ComesFrom, IsTree, IsWidened, AreWidened, Extends, Grows, Stands}
-use Rattle.zl_explore.specs.declared.search.Node.{Node}
+use Rattle.zl_explore.specs.Nodes.{IsMet, IsRooted, ComesFrom, IsTree, IsWidened, AreWidened, Extends, Grows, Stands}
+use Rattle.zl_explore.specs.declared.met.Node.{Node}
 use Rattle.zl_explore.proofs.Lists.{get_left, get_last, get_either, get_below, there_is}
 
 module _ {S : Type 0} (ready : S → List ℕ) (next : S → ℕ → S) where
@@ -167,13 +167,18 @@ module _ {S : Type 0} (ready : S → List ℕ) (next : S → ℕ → S) where
   unfolding AreWidened
   widened_all nodes count enough widened = λ i n below there. widened i n (omega (arith, below, enough)) there
 
-  -- the state that is read at the place is still the same
-  pub same_node : (old : List (Node S)) (place : ℕ) (pids : List ℕ) (count : ℕ) (new : List (Node S)) (n m : Node S) → slice_get old place ≡ Some n
-      → Grows ready next old place pids count new → m ≡ get_or new place m → n ≡ m
-  same_node old place pids count new n m there grows read =
-      let there_new : slice_get new place ≡ Some n =
-      subst (λ (x : List (Node S)). slice_get x place ≡ Some n) (sym grows.items) (get_left old grows.more place n there) in
-      same_Some n m (sym there_new ∙ slice_get_read new _ place m refl (slice_get_within new place n there_new) read)
+  -- the state at the place still stands there
+  module _ (old : List (Node S)) (place : ℕ) (pids : List ℕ) (count : ℕ) (new : List (Node S)) where
+    pub still_there : (n : Node S) → slice_get old place ≡ Some n → Grows ready next old place pids count new → slice_get new place ≡ Some n
+    still_there n there grows =
+        subst (λ (x : List (Node S)). slice_get x place ≡ Some n) (sym grows.items) (get_left old grows.more place n there)
+
+    pub still_within : place < length old → Grows ready next old place pids count new → place < length new
+    still_within within grows =
+        let (n, there) = there_is old place within in slice_get_within new place n (still_there n there grows)
+
+    pub still_rooted : IsRooted ready next old → Grows ready next old place pids count new → IsRooted ready next new
+    still_rooted (start, tree) grows = (start, grows.tree start tree)
 
   -- the state at the place, and who can go there
   pub ready_there : (nodes : List (Node S)) (place : ℕ) (pids : List ℕ) → place < length nodes → IfSome (slice_get nodes place) (λ n. pids ≡ ready n.at)

@@ -9,7 +9,7 @@ use Rattle.zl_explore.specs.Nodes.{Extends}
 use Rattle.zl_explore.specs.Paths.{IsIn}
 use Rattle.zl_explore.specs.Quiet.{AreQuiet, IsBadTurnAt, TurnsQuiet}
 use Rattle.zl_explore.specs.declared.bad.Bad.{Bad}
-use Rattle.zl_explore.specs.declared.search.Node.{Node}
+use Rattle.zl_explore.specs.declared.met.Node.{Node}
 use Rattle.zl_explore.proofs.Lists.{get_below, get_left}
 
 module _ {S : Type 0} (ready : S → List ℕ) (tells : S → ℕ → Option TraceItem) (bad : List Bad) where

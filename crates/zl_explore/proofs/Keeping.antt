@@ -29,8 +29,8 @@ use Rattle.zl_explore.specs.declared.ends.End.{End}
 use Rattle.zl_explore.specs.declared.ends.Next.{Next}
 use Rattle.zl_explore.specs.declared.ends.Next.TheVariants as next
 use Rattle.zl_explore.specs.declared.kept.Kept.{Kept}
-use Rattle.zl_explore.specs.declared.search.Node.{Node}
-use Rattle.zl_explore.proofs.Growing.{tree_one, widened_more, widened_none}
+use Rattle.zl_explore.specs.declared.met.Node.{Node}
+use Rattle.zl_explore.proofs.Growing.{ready_there, tree_one, widened_more, widened_none}
 use Rattle.zl_explore.proofs.Lists.{get_below, get_last, get_left, there_is}
 use Rattle.zl_explore.proofs.Edging.{have_end, have_grown}
 use Rattle.zl_explore.proofs.Ending.{Ends, comes_ends, edges_within, ends_comes, node_reached}
@@ -228,10 +228,17 @@ whole_ended old new whole root bad nodes course same end told inside = record {
   within = omega (arith, same, ap length nodes, slice_get_within old.nodes.items old.widened end.node end.there);
 }
 
--- the world that is read at the place of an end is the end
-pub end_at : (nodes : List (Node Machine)) (place : ℕ) (end : IsEndAt nodes place) (n : Node Machine) → n ≡ get_or nodes place n → end.node ≡ n
-end_at nodes place end n read =
-    same_Some end.node n (sym end.there ∙ slice_get_read nodes _ place n refl (slice_get_within nodes place end.node end.there) read)
+-- where nobody is ready in the world at the place, it is an end
+pub end_is : (nodes : List (Node Machine)) (place : ℕ) (pids : List ℕ) → place < length nodes
+    → IfSome (slice_get nodes place) (λ n. pids ≡ ready_of n.at) → length pids ≡ 0 → IsEndAt nodes place
+end_is nodes place [] within are none =
+    let (n, there, ready) = ready_there ready_of reduced nodes place [] within are in record { node = n; there = there; nobody = sym ready }
+end_is nodes place (p ∷ pids) within are none = absurd (omega (arith, none))
+
+pub end_states : (nodes : List (Node Machine)) (place : ℕ) (end : IsEndAt nodes place) (states : States)
+    → IfSome (slice_get nodes place) (λ n. states ≡ told_in (own_here n.at)) → states ≡ told_in (own_here end.node.at)
+end_states nodes place end states are =
+    subst (λ (found : Option (Node Machine)). IfSome found (λ n. states ≡ told_in (own_here n.at))) end.there are
 
 -- ---- what is told as it goes on
 
@@ -252,6 +259,7 @@ end_told old new whole end e turns states leads takes root bad nodes course wide
       (end_leads m old.root old.nodes.items old.widened end.node end.there turns e.turns.items whole.tree leads takes began still end.nobody);
   moves = widened;
   most = most;
+  cut = tt;
   bad = bad;
 }
 
@@ -290,6 +298,7 @@ bad_goes old new (next.Bad b) which whole root told most bad leads = record {
   leads = leads_from (Some (next.Bad b)) (search_of old) (search_of new) root (λ i. (bad i).items) leads;
   moves = tt;
   most = most;
+  cut = tt;
   bad = bad;
 }
 bad_goes old new next.Memory which whole root told most bad leads = record {
@@ -299,6 +308,7 @@ bad_goes old new next.Memory which whole root told most bad leads = record {
   leads = tt;
   moves = tt;
   most = most;
+  cut = tt;
   bad = bad;
 }
 bad_goes old new (next.End e) which whole root told most bad leads = absurd which

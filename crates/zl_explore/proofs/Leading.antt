@@ -1,9 +1,9 @@
 -- The turns that lead to a state that was met, read back from it to the first.
-use Rattle.std.proofs.Common.{◌≡◌, ◌<◌, ◌∙◌, ℕ, List, [], ◌∷◌, length, refl, sym, subst, IfSome, Option, Some, slice_get}
+use Rattle.std.proofs.Common.{◌≡◌, ◌<◌, ◌∙◌, ℕ, List, [], ◌∷◌, ◌++◌, length, refl, sym, subst, Some, slice_get}
 use Rattle.std.proofs.lemmas.Option.{same_Some}
 use Rattle.zl_explore.specs.Nodes.{IsTree, LeadsTo}
 use Rattle.zl_explore.specs.Paths.{IsPath, after}
-use Rattle.zl_explore.specs.declared.search.Node.{Node}
+use Rattle.zl_explore.specs.declared.met.Node.{Node}
 use Rattle.zl_explore.proofs.Lists.{there_is}
 
 module _ {S : Type 0} (ready : S → List ℕ) (next : S → ℕ → S) (nodes : List (Node S)) where
@@ -18,12 +18,6 @@ module _ {S : Type 0} (ready : S → List ℕ) (next : S → ℕ → S) (nodes :
     is_path = tt;
     leads = refl;
   })
-
-  -- nodes with a first one that they all come from
-  pub rooted : IfSome (slice_get nodes 0) (λ root. IsTree ready next root.at nodes) → 0 < length nodes → (start : S) × IsTree ready next start nodes
-  rooted tree some =
-      let (root, there) = there_is nodes 0 some in
-      (root.at, subst (λ (found : Option (Node S)). IfSome found (λ r. IsTree ready next r.at nodes)) there tree)
 
   -- the turn that led to it stands before them
   pub leads_more : (start : S) → IsTree ready next start nodes → (place target : ℕ) (n : Node S) (turns : List ℕ) → 0 < place → slice_get nodes place ≡ Some n
@@ -40,3 +34,10 @@ module _ {S : Type 0} (ready : S → List ℕ) (next : S → ℕ → S) (nodes :
         is_path = (comes.is_ready, subst (λ (s : S). IsPath ready next s turns) at leads.is_path);
         leads = subst (λ (s : S). after ready next s turns ≡ leads.to.at) at leads.leads;
       }
+
+-- one turn more
+pub after_more : {S : Type 0} (ready : S → List ℕ) (next : S → ℕ → S) (turns : List ℕ) (s : S) (p : ℕ)
+    → after ready next s (turns ++ (p ∷ [])) ≡ next (after ready next s turns) p
+unfolding after
+after_more ready next [] s p = refl
+after_more ready next (q ∷ turns) s p = after_more ready next turns (next s q) p

@@ -3,6 +3,7 @@ pub mod Filtered
 pub mod ReadyProcess
 pub mod Growing
 pub mod Leading
+pub mod Meeting
 pub mod Hearing
 pub mod Marking
 pub mod Edging

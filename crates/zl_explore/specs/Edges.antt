@@ -1,7 +1,7 @@
 -- Which states lead to which, by their places.
 use Rattle.std.specs.Prelude.{ℕ, ◌≡◌, ◌<◌, ◌+◌, List, Some, slice_get}
 use Rattle.zl_explore.specs.Paths.{IsIn}
-use Rattle.zl_explore.specs.declared.search.Node.{Node}
+use Rattle.zl_explore.specs.declared.met.Node.{Node}
 use Rattle.zl_explore.specs.declared.search.Widened.{Widened}
 use Rattle.zl_explore.specs.declared.search.Widened.TheVariants as widened
 

@@ -10,11 +10,11 @@ use Rattle.zl_explore.specs.Private.{RestsStill}
 use Rattle.zl_explore.specs.Running.{ready_of, told_at}
 use Rattle.zl_explore.specs.Quiet.{AreQuiet}
 use Rattle.zl_explore.specs.Searching.{Search, States}
-use Rattle.zl_explore.specs.Telling.{Leads, Tells}
+use Rattle.zl_explore.specs.Telling.{Leads, Tells, TellsCut}
 use Rattle.zl_explore.specs.declared.ends.Next.{Next}
 use Rattle.zl_explore.specs.declared.ends.Next.TheVariants as next
 use Rattle.zl_explore.specs.declared.kept.Kept.{Kept}
-use Rattle.zl_explore.specs.declared.search.Node.{Node}
+use Rattle.zl_explore.specs.declared.met.Node.{Node}
 
 -- the states of the ends that were told
 abbrev pub told_of : Kept → List States
@@ -26,8 +26,14 @@ search_of k = record {
   root = k.root;
   told = told_of k;
   bad = k.bad.items;
+  most = k.most;
+  worlds = length k.nodes.items;
   left = k.most - k.widened;
 }
+
+-- one world more was gone on from
+abbrev pub moved_on : Kept → Kept
+moved_on k = record k { widened = k.widened + 1 }
 
 -- nobody is ready in the world at the place
 pub record IsEndAt (nodes : List (Node Machine)) (place : ℕ) : Type 0 where
@@ -57,6 +63,11 @@ Moves (Some (next.End e)) old new = new ≡ old + 1
 Moves (Some (next.All endless)) old new = ⊥
 Moves (Some _) old new = Unit {0}
 
+-- it is cut only where as many worlds were met as there may be
+abbrev pub CutsFull : Option Next → Kept → Type 0
+CutsFull (Some n) k = TellsCut n (search_of k)
+CutsFull None k = Unit {0}
+
 -- it is no end
 abbrev pub IsNoEnd : Next → Type 0
 IsNoEnd (next.End e) = ⊥
@@ -76,4 +87,5 @@ pub record Goes (old : Kept) (n : Option Next) (new : Kept) : Type 0 where
   pub leads : Leads n (search_of old)
   pub moves : Moves n old.widened new.widened
   pub most : new.most ≡ old.most
+  pub cut : CutsFull n new
   pub bad : new.bad ≡ old.bad

@@ -5,6 +5,7 @@ pub mod Running
 pub mod Paths
 pub mod Bad
 pub mod Nodes
+pub mod Met
 pub mod Quiet
 pub mod Edges
 pub mod Marks

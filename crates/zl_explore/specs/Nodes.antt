@@ -1,7 +1,7 @@
 -- The states that were met, each with the one that it was met from.
 use Rattle.std.specs.Prelude.{ℕ, ◌≡◌, ◌<◌, ◌⊎◌, List, [], ◌∷◌, ◌++◌, Some, slice_get}
 use Rattle.zl_explore.specs.Paths.{IsIn, IsPath, after}
-use Rattle.zl_explore.specs.declared.search.Node.{Node}
+use Rattle.zl_explore.specs.declared.met.Node.{Node}
 
 -- the one list begins the other
 abbrev pub Extends : {X : Type 0} → (old new : List X) → Type 0
@@ -40,6 +40,10 @@ module _ {S : Type 0} (ready : S → List ℕ) (next : S → ℕ → S) where
     pub first : slice_get nodes 0 ≡ Some root
     pub starts : root.at ≡ start
     pub others : (place : ℕ) (n : Node S) → 0 < place → slice_get nodes place ≡ Some n → ComesFrom nodes place n
+
+  -- so from whatever start
+  abbrev pub IsRooted : List (Node S) → Type 0
+  IsRooted nodes = (start : S) × IsTree start nodes
 
   -- all turns from s lead to states that were met
   unfoldable pub IsWidened : List (Node S) → S → Type 0

@@ -5,7 +5,7 @@ use Rattle.zl_explore.specs.Bad.{IsQuiet, NamesItem}
 use Rattle.zl_explore.specs.Nodes.{AreWidened}
 use Rattle.zl_explore.specs.Paths.{IsIn}
 use Rattle.zl_explore.specs.declared.bad.Bad.{Bad}
-use Rattle.zl_explore.specs.declared.search.Node.{Node}
+use Rattle.zl_explore.specs.declared.met.Node.{Node}
 use Rattle.zl_explore.specs.declared.search.Widened.{Widened}
 use Rattle.zl_explore.specs.declared.search.Widened.TheVariants as widened
 

@@ -57,12 +57,14 @@ pub record IsEndless (lib : Library) (o : OwnWorld) : Type 0 where
   pub leads : OwnTurns lib o turns last
   pub never : CanEnd lib last → ⊥
 
--- a search: what counts of the world that it began with, the states of the ends that it told, what no order may have, and how many worlds
--- it may still go on from
+-- a search: what counts of the world that it began with, the states of the ends that it told, what no order may have, how many worlds there
+-- may be, how many it met, and how many it may still go on from
 pub record Search : Type 0 where
   pub root : Machine
   pub told : List States
   pub bad : List Bad
+  pub most : ℕ
+  pub worlds : ℕ
   pub left : ℕ
 
 -- it began with the world

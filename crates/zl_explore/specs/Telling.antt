@@ -1,5 +1,5 @@
 -- What a search tells as it goes on.
-use Rattle.std.specs.Prelude.{ℕ, true, false, ◌≡◌, ◌<◌, List, [], ◌∷◌, ◌++◌, Option, Some}
+use Rattle.std.specs.Prelude.{ℕ, true, false, ◌≡◌, ◌<◌, ◌≤◌, List, [], ◌∷◌, ◌++◌, Option, Some}
 use Rattle.zl_calls.specs.World.{Machine, own_here}
 use Rattle.zl_explore.specs.Paths.{IsIn}
 use Rattle.zl_explore.specs.Private.{IsStill}
@@ -44,3 +44,8 @@ abbrev pub TellsEndless : Next → Search → Type 0
 TellsEndless (next.All true) s = (m : Machine) → IsStill (own_here m) → BeganWith m s → IsEndless m.programs (own_here m)
 TellsEndless (next.All false) s = (m : Machine) → IsStill (own_here m) → BeganWith m s → IsEndless m.programs (own_here m) → ⊥
 TellsEndless _ s = Unit {0}
+
+-- it is cut only where as many worlds were met as there may be
+abbrev pub TellsCut : Next → Search → Type 0
+TellsCut next.Cut s = s.most ≤ s.worlds
+TellsCut _ s = Unit {0}

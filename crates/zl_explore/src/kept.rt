@@ -1,26 +1,32 @@
 //! What a search keeps, and how it goes on.
 
-ghost use Rattle.std.specs.Prelude.{◌≡◌, ◌++◌, ◌∷◌, ◌<◌, ◌≤◌, [], length, map, IfOk, IsTrue, OnErr, OnOk, Some};
+ghost use Rattle.std.specs.Prelude.{◌≡◌, ◌++◌, ◌∷◌, ◌<◌, ◌≤◌, [], length, map, slice_get, IfOk, IfSome, IsTrue, OnErr, OnOk, Some};
 ghost use Rattle.zl_calls.specs.World.{own_here};
 ghost use Rattle.zl_explore.specs.GoingAhead.{Takes, reduced, start_of};
 ghost use Rattle.zl_explore.specs.Private.{IsStill};
 ghost use Rattle.zl_explore.specs.Running.{ready_of, rested_machine, told_at};
+ghost use Rattle.zl_explore.specs.Orders.{told_in};
 ghost use Rattle.zl_explore.specs.Paths.{IsIn, after};
-ghost use Rattle.zl_explore.specs.Kept.{Goes, IsBadOrMemory, IsEndAt, IsNoEnd, IsWhole, search_of, told_of};
+ghost use Rattle.zl_explore.specs.Kept.{Goes, IsBadOrMemory, IsEndAt, IsNoEnd, IsWhole, moved_on, search_of, told_of};
 ghost use Rattle.zl_explore.specs.Quiet.{IsBadTurnAt};
-ghost use Rattle.zl_explore.specs.Telling.{Leads, Lessens, Tells, TellsAll, TellsEndless, TellsNone};
+ghost use Rattle.zl_explore.specs.Telling.{Leads, Lessens, Tells, TellsAll, TellsCut, TellsEndless, TellsNone};
 
 use crate::bad::Bad;
 use crate::edges::endless_place;
 use crate::ends::{BadTurn, End, Next, are_same, digest_of};
 use crate::machine::Machine;
+use crate::met::Met;
 use crate::places::Places;
 use crate::running::Running;
-use crate::search::{Course, Node, Widened, turns_to, widen};
+use crate::search::{Course, Widened, widen};
 use std::alloc::{AllocError, Global};
 use zl_calls::World;
 use zl_code::ProcState;
 use zl_rights::Pid;
+
+/// So many of the worlds that were gone on from last are held, so that turns that lead back to one of these
+/// find it as it is.
+const HELD: usize = 1_000;
 
 /// The worlds that were met, and the ends that were told.
 #[derive(Drop)]
@@ -28,7 +34,7 @@ pub struct Kept {
     pub alloc: Global,
     /// Where it began, before anybody went ahead.
     pub root: Running,
-    pub nodes: Vec<Node<Running>>,
+    pub nodes: Met<Running>,
     pub course: Course,
     /// What no order may have.
     pub bad: Vec<Bad>,
@@ -50,18 +56,14 @@ impl Kept {
         ensures root { IfOk result (λ kept. kept.root ≡ rested_machine world) }
         ensures told { IfOk result (λ kept. told_of kept ≡ []) }
         ensures bad { IfOk result (λ kept. kept.bad ≡ bad) }
+        ensures most { IfOk result (λ kept. kept.most ≡ most) }
         ensures left { IfOk result (λ kept. (search_of kept).left ≡ most) }
     {
         let root = Running::new(alloc, world);
         let start = root.copy()?.begin(&mut Vec::new(alloc))?;
         let mut places = Places::new(alloc);
         places.push(start.digest())?;
-        let mut nodes = Vec::new(alloc);
-        nodes.push(Node {
-            at: start,
-            from: 0,
-            by: 0,
-        })?;
+        let nodes = Met::new(alloc, start)?;
         Ok(Kept {
             alloc,
             root,
@@ -91,6 +93,8 @@ impl Kept {
         ensures all { TellsAll result (search_of self.new) }
         ensures none { TellsNone result (search_of self.new) }
         ensures endless { TellsEndless result (search_of self.new) }
+        ensures cut { TellsCut result (search_of self.new) }
+        ensures most { self.new.most ≡ self.old.most }
     {
         for _ in self.widened..self.most {
             if self.widened >= self.nodes.len() {
@@ -115,6 +119,7 @@ impl Kept {
         ensures all { TellsAll result (search_of self.now) }
         ensures none { TellsNone result (search_of self.now) }
         ensures endless { TellsEndless result (search_of self.now) }
+        ensures cut { TellsCut result (search_of self.now) }
     {
         match endless_place(self.alloc, &self.course.edges, self.nodes.len()) {
             Ok(place) => Next::All {
@@ -128,9 +133,10 @@ impl Kept {
     fn widen_one(&mut self) -> Option<Next>
         requires whole { IsWhole self.old }
         requires more { self.old.widened < length self.old.nodes.items }
+        requires room { self.old.widened < self.old.most }
         ensures { Goes self.old result self.new }
     {
-        let Ok(pids) = self.nodes[self.widened].at.ready() else {
+        let Ok(pids) = self.nodes.ready_at(self.widened) else {
             return Some(Next::Memory);
         };
         if pids.is_empty() {
@@ -146,7 +152,7 @@ impl Kept {
             most,
         ) {
             Ok(Widened::All) => {
-                self.widened += 1;
+                self.move_on();
                 None
             }
             Ok(Widened::Full) => Some(Next::Cut),
@@ -163,7 +169,7 @@ impl Kept {
         ensures which { IsBadOrMemory result }
         ensures leads { Leads (Some result) (search_of self.now) }
     {
-        let Ok(turns) = turns_to(self.alloc, &self.nodes, self.widened) else {
+        let Ok(turns) = self.nodes.turns_to(self.widened) else {
             return Next::Memory;
         };
         let Ok(mut turns) = taken_by(self.alloc, &self.root, &turns) else {
@@ -179,17 +185,18 @@ impl Kept {
     fn end_here(&mut self) -> Option<Next>
         requires whole { IsWhole self.old }
         requires end { IsEndAt self.old.nodes.items self.old.widened }
+        requires room { self.old.widened < self.old.most }
         ensures { Goes self.old result self.new }
     {
-        let Ok(states) = self.nodes[self.widened].at.states() else {
+        let Ok(states) = self.states() else {
             return Some(Next::Memory);
         };
         let digest = digest_of(&states);
         if is_told(&self.told, &self.told_places, &states, digest) {
-            self.widened += 1;
+            self.move_on();
             return None;
         }
-        let Ok(turns) = turns_to(self.alloc, &self.nodes, self.widened) else {
+        let Ok(turns) = self.nodes.turns_to(self.widened) else {
             return Some(Next::Memory);
         };
         let Ok(turns) = taken_by(self.alloc, &self.root, &turns) else {
@@ -198,8 +205,29 @@ impl Kept {
         let Ok(()) = self.keep_told(&states, digest) else {
             return Some(Next::Memory);
         };
-        self.widened += 1;
+        self.move_on();
         Some(Next::End(End { states, turns }))
+    }
+
+    /// The next world was gone on from, or is an end. One that was so before is let go.
+    fn move_on(&mut self)
+        requires { self.old.widened < self.old.most }
+        ensures { self.new ≡ moved_on self.old }
+    {
+        self.widened += 1;
+        if let Some(place) = self.widened.checked_sub(HELD) {
+            self.nodes.let_go(place);
+        }
+    }
+
+    /// What each process is in, in the next world. Only memory can be refused.
+    fn states(&self) -> Result<Vec<(Pid, ProcState)>, AllocError>
+        requires whole { IsWhole self.now }
+        requires end { IsEndAt self.now.nodes.items self.now.widened }
+        ensures { IfOk result (λ states. IfSome (slice_get self.now.nodes.items self.now.widened)
+            (λ n. states.items ≡ told_in (own_here n.at))) }
+    {
+        self.nodes.copy_at(self.widened)?.states()
     }
 
     /// These states were told.

@@ -13,6 +13,7 @@ mod edges;
 mod ends;
 mod kept;
 mod machine;
+mod met;
 mod orders;
 mod places;
 mod running;

@@ -4,7 +4,7 @@ ghost use Rattle.std.specs.Prelude.{◌≡◌, [], length, IfOk, Some};
 ghost use Rattle.zl_calls.specs.World.{own_here};
 ghost use Rattle.zl_explore.specs.Private.{IsStill};
 ghost use Rattle.zl_explore.specs.Searching.{BeganWith};
-ghost use Rattle.zl_explore.specs.Telling.{Leads, Lessens, Tells, TellsAll, TellsEndless, TellsNone};
+ghost use Rattle.zl_explore.specs.Telling.{Leads, Lessens, Tells, TellsAll, TellsCut, TellsEndless, TellsNone};
 
 use crate::bad::Bad;
 use crate::ends::Next;
@@ -48,6 +48,7 @@ impl Search {
         ensures root { IfOk result (BeganWith world) }
         ensures told { IfOk result (λ search. search.told ≡ []) }
         ensures bad { IfOk result (λ search. search.bad ≡ bad.items) }
+        ensures most { IfOk result (λ search. search.most ≡ most) }
         ensures left { IfOk result (λ search. search.left ≡ most) }
     {
         Ok(Search {
@@ -62,8 +63,8 @@ impl Search {
     /// began, and so does such an item, which is the last one's. `All` comes only where every order of
     /// turns, of any length, that comes to a world in which nobody is ready comes to the states of an end
     /// that was told, and none has an item that a pattern names; it says whether one leads to a world from
-    /// which none comes to an end any more. Behind an end there is less to go on
-    /// from, so that the search ends.
+    /// which none comes to an end any more. `Cut` comes only where as many worlds were met as there may be.
+    /// Behind an end there is less to go on from, so that the search ends.
     pub fn next_end(&mut self) -> Next
         ensures root { self.new.root ≡ self.old.root }
         ensures bad { self.new.bad ≡ self.old.bad }
@@ -73,12 +74,16 @@ impl Search {
         ensures all { TellsAll result self.new }
         ensures none { TellsNone result self.new }
         ensures endless { TellsEndless result self.new }
+        ensures cut { TellsCut result self.new }
+        ensures most { self.new.most ≡ self.old.most }
     {
         self.kept.next_end()
     }
 
     /// How many worlds were met.
-    pub fn worlds(&self) -> usize {
+    pub fn worlds(&self) -> usize
+        ensures { result ≡ self.now.worlds }
+    {
         self.kept.nodes.len()
     }
 

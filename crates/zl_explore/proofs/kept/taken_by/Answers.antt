@@ -3,7 +3,8 @@ use Rattle.std.proofs.lemmas.List.{take_more}
 use Rattle.zl_explore.specs.GoingAhead.{reduced, start_of}
 use Rattle.zl_explore.specs.Paths.{after}
 use Rattle.zl_explore.specs.Running.{ready_of}
-use Rattle.zl_explore.proofs.GoingAhead.{after_more, takes_both}
+use Rattle.zl_explore.proofs.GoingAhead.{takes_both}
+use Rattle.zl_explore.proofs.Leading.{after_more}
 use Rattle.zl_explore.proofs.kept.taken_by.Goals as goal
 
 pub loop-pid-init : goal.loop-pid-init

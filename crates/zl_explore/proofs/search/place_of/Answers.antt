@@ -6,7 +6,7 @@ use Rattle.zl_explore.proofs.search.place_of.Goals as goal
 pub returns-clause-some : goal.returns-clause-some
 returns-clause-some g c =
     let old = c.args.nodes.now.items in
-    let is : c.push-2.new.self.items ≡ old ++ (c.args.node ∷ []) = (c.in_ok-push-2.ensures {u = tt}).items in
+    let is : c.push-2.new.self.items ≡ old ++ (c.args.node ∷ []) = (c.in_ok-push-2.ensures {u = tt}).ok in
     let last : length old ≡ c.len-2.result - 1 = omega (arith, c.len-2.ensures, ap length is, length-append old (c.args.node ∷ [])) in record {
       is = inr is;
       stands = record {

@@ -9,7 +9,7 @@ use Rattle.zl_explore.proofs.kept.Kept.all.Goals as goal
 pub endless_place-requires : goal.endless_place-requires
 endless_place-requires c =
     subst (λ (edges : List (ℕ × ℕ)). AreWithin edges c.len.result) (sym c.deref.ensures.value)
-    (subst (AreWithin c.args.self.now.course.edges.items) (sym (c.len.ensures ∙ c.args.self.now.nodes.ok.0)) (all_within c.args.self.now
+    (subst (AreWithin c.args.self.now.course.edges.items) (sym c.len.ensures) (all_within c.args.self.now
     c.requires.whole c.requires.enough))
 
 pub returns-in-Ok-clause-all : goal.returns-in-Ok-clause-all
@@ -21,7 +21,7 @@ returns-in-Ok-clause-none c = none_here c.args.self.now c.requires.whole c.requi
 pub returns-in-Ok-clause-endless : goal.returns-in-Ok-clause-endless
 returns-in-Ok-clause-endless c =
     let told = c.in-Ok.ensures {u = tt} in
-    let count : c.len.result ≡ length c.args.self.now.nodes.items = c.len.ensures ∙ c.args.self.now.nodes.ok.0 in
+    let count : c.len.result ≡ length c.args.self.now.nodes.items = c.len.ensures in
     subst (λ is. TellsEndless (next.All is) (search_of c.args.self.now)) (sym c.is_some.ensures)
     (endless_here c.args.self.now c.requires.whole c.requires.enough c.in-Ok.place (rw (c.deref.ensures.value, count) at told.some)
     (rw (c.deref.ensures.value, count) at told.none))

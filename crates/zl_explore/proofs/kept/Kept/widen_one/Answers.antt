@@ -1,28 +1,37 @@
-use Rattle.zl_code.proofs.Common.{Some, ap, arith, length, nat_tests, refl, slice_get, ◌<◌, ◌∙◌, ◌≡◌}
-use Rattle.std.proofs.lemmas.Option.{slice_get_read}
+use Rattle.zl_code.proofs.Common.{None, ap, arith, length, nat_tests, refl, subst, sym, ◌<◌, ◌∙◌}
+use Rattle.zl_explore.specs.GoingAhead.{reduced}
+use Rattle.zl_explore.specs.Kept.{Goes}
+use Rattle.zl_explore.specs.Running.{ready_of}
+use Rattle.zl_explore.proofs.Growing.{ready_there}
 use Rattle.zl_explore.proofs.Hearing.{bad_grown}
-use Rattle.zl_explore.proofs.Keeping.{bad_goes, whole_grown, whole_widened}
+use Rattle.zl_explore.proofs.Keeping.{bad_goes, end_is, whole_grown, whole_widened}
 use Rattle.zl_explore.proofs.kept.Kept.widen_one.Goals as goal
+
+pub end_here-requires-clause-end : goal.end_here-requires-clause-end
+end_here-requires-clause-end c =
+    end_is c.args.self.now.nodes.items c.args.self.now.widened c.in-Ok.pids.items c.requires.more (c.in-Ok.ensures {u = tt})
+    (grind (arith, nat_tests, c.if-is_empty.true, c.is_empty.ensures))
 
 pub returns-in-Ok-All : goal.returns-in-Ok-All
 returns-in-Ok-All c =
+    let old = c.args.self.now in
     let told = c.in-Ok-All.ensures {u = tt} in
     let widens = rw (c.in-Ok-All.field-0-is, c.deref-2.ensures.value) at told.widens in
-    let n = c.index.result.now in
-    let there : slice_get c.args.self.now.nodes.items c.args.self.now.widened ≡ Some n =
-    slice_get_read c.args.self.now.nodes.items _ c.args.self.now.widened n refl c.requires.more c.index.ensures in
-    let filled : 0 < length c.in-Ok.pids.items = grind (arith, nat_tests, c.if-is_empty.false, c.is_empty.ensures) in record {
+    let (n, there, ready) = ready_there ready_of reduced old.nodes.items old.widened c.in-Ok.pids.items c.requires.more (c.in-Ok.ensures {u = tt}) in
+    let filled : 0 < length c.in-Ok.pids.items = grind (arith, nat_tests, c.if-is_empty.false, c.is_empty.ensures) in
+    subst (λ new. Goes old None new) (sym c.move_on.ensures) (record {
       whole = whole_widened _ _ c.requires.whole refl refl c.widen.ensures.tree c.widen.ensures.edges c.widen.ensures.more_edges
           c.widen.ensures.extends refl refl
           widens.0 widens.1 (rw c.in-Ok-All.field-0-is at told.have_edges) n there
-          (λ none. omega (arith, filled, ap length (c.in-Ok.ensures {u = tt} ∙ none)));
+          (λ none. omega (arith, filled, ap length (ready ∙ none)));
       root = refl;
       told = refl;
       leads = tt;
       moves = refl;
       most = refl;
+      cut = tt;
       bad = refl;
-    }
+    })
 
 pub returns-in-Ok-Full : goal.returns-in-Ok-Full
 returns-in-Ok-Full c = record {
@@ -32,6 +41,7 @@ returns-in-Ok-Full c = record {
   leads = tt;
   moves = tt;
   most = refl;
+  cut = (c.in-Ok-Full.ensures {u = tt}).full c.in-Ok-Full.field-0-is;
   bad = refl;
 }
 
@@ -43,6 +53,7 @@ returns c = record {
   leads = tt;
   moves = tt;
   most = refl;
+  cut = tt;
   bad = refl;
 }
 

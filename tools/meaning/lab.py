@@ -11,6 +11,8 @@ from programs import named
 
 # What ./run says at each start of a build that isn't proved.
 UNPROVED = b"run: an unproved quick build answers"
+# Its statuses where it has searched: all was met, an order has what none may have, memory was refused, it was cut.
+SEARCHED = (0, 1, 4, 5)
 
 
 class Lab:
@@ -93,10 +95,10 @@ class Lab:
         if status:
             self.must([], scenario)
 
-    def written(self, words, given):
-        """What it writes, where its status is 0; else Trouble says in its words what is wrong."""
+    def written(self, words, given, fine=(0,)):
+        """What it writes, where its status is fine; else Trouble says in its words what is wrong."""
         status, output, said = self.start(words, given)
-        if status:
+        if status not in fine:
             lines = [self.told(line) if self.told else line
                      for line in (output + said).decode(errors="replace").splitlines() if line]
             raise Trouble("; ".join(lines[:2]) or f"{self.program} ended with status {status}")
@@ -106,6 +108,12 @@ class Lab:
         """The lines of the trace of a scenario, which has no schedule, along the turns of one."""
         self.runs += 1
         return self.written([], b"%s--\n%s" % (scenario, schedule)).decode().splitlines()
+
+    def explored(self, scenario, most, bad):
+        """The lines of its search over all orders of a scenario, which has no schedule, up to so many worlds, with what no
+        order may have."""
+        words = ["explore", "/dev/stdin", "--worlds", most, *(f"--bad={one}" for one in bad)]
+        return self.written(words, scenario, SEARCHED).decode().splitlines()
 
 
 def stop(process, is_apart):

@@ -156,9 +156,9 @@ class Asserted(Nothing):
             if sight.is_of_endless:
                 sight.worlds.update(numbers)
 
-    def verdicts(self, is_whole):
-        """What is known of each, once all orders were tried or some."""
-        return [Verdict(sight, found_of(sight, is_whole)) for sight in self.sights]
+    def verdicts(self, is_whole, by_model=()):
+        """What is known of each, once all orders were tried or some; of these sights by the model alone."""
+        return [Verdict(sight, found_of(sight, is_whole), sight in by_model) for sight in self.sights]
 
 
 def found_of(sight, is_whole):
@@ -170,6 +170,7 @@ def found_of(sight, is_whole):
 
 
 class Verdict(NamedTuple):
-    """What is known of an assertion."""
+    """What is known of an assertion, and whether that it is in no order rests on the model."""
     sight: Sight
     found: str
+    is_by_model: bool

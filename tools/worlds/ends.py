@@ -18,7 +18,12 @@ NO_END = "no end: after these turns all orders go round for ever"
 
 def end_name(world, telling=NO_NAMES):
     """The states of all processes."""
-    return told_ends(", ".join(f"{telling.who(pid)} {process.state_text()}" for pid, process in sorted(world.processes.items())))
+    return states_name([(pid, process.state_text()) for pid, process in sorted(world.processes.items())], telling)
+
+
+def states_name(states, telling):
+    """The same of pairs of a process and its state."""
+    return told_ends(", ".join(f"{telling.who(pid)} {state}" for pid, state in states))
 
 
 def is_cut(world):

@@ -1,5 +1,6 @@
-"""A scenario whose orders are tried: by the model, and each of them by the lab too."""
+"""A scenario whose orders are tried: by the model, and by the lab."""
 import random
+from contextlib import contextmanager
 
 from meaning.saying import Origins
 from meaning.scenario import joined, read_scenario, schedule_text, without_turns
@@ -90,7 +91,7 @@ class Exploring:
     def confirm_steps(self, found):
         """The lab takes each step of the search, and the orders that lead to where it begins."""
         graph = found.graph
-        try:
+        with so_far(found):
             for order in found.to_roots:
                 self.confirm_order(order)
             all_steps = sum(len(steps) for steps in graph.steps)
@@ -99,8 +100,6 @@ class Exploring:
                                   f"{counted(all_steps, 'step')} in {counted(self.runs, 'run')}")
                 self.confirm_run(run)
                 self.taken.append(run.order)
-        except KeyboardInterrupt:
-            raise Interrupted(found) from None
 
     # ---- orders by chance
 
@@ -130,6 +129,15 @@ class Interrupted(BaseException):
         self.found = found
 
 
+@contextmanager
+def so_far(found):
+    """What is done with what a search has found, so that an interrupt leaves that."""
+    try:
+        yield
+    except KeyboardInterrupt:
+        raise Interrupted(found) from None
+
+
 class Searched:
     """What a search of all orders, or of a part of them, has found."""
 
@@ -142,6 +150,11 @@ class Searched:
     def is_whole(self):
         """Whether all worlds were gone on from, to which the orders of this part lead."""
         return not self.graph.has_too_many and not self.graph.is_cut
+
+    @property
+    def is_all(self):
+        """The same, where these are all worlds that there are."""
+        return self.is_whole and self.part[1] == 1
 
     def counts(self):
         return orders_to_ends(self.graph)

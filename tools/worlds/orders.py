@@ -2,7 +2,7 @@
 from collections import deque
 from typing import NamedTuple
 
-from .ends import NO_NAMES, end_name, end_reasons, is_cut
+from .ends import CAUSES, NO_NAMES, end_name, end_reasons, is_cut
 from .turns import choices, go, turns_to_call
 
 
@@ -19,6 +19,11 @@ class End(NamedTuple):
     """An end of orders: the states of its processes, and why nobody goes on."""
     name: str
     reasons: tuple
+
+    @property
+    def is_round(self):
+        """Whether somebody goes round for ever, so that it is none to the lab's own search."""
+        return any(line.startswith(CAUSES["goes round"]) for line in self.reasons)
 
 
 def end_of(world, telling):

@@ -10,7 +10,7 @@ from .report import INDENT, add_up, print_ends, read_ends
 from .verdicts import IN_NONE, NOT_SEEN, summary_of
 
 # How the lines begin that say of a part that it hasn't tried all.
-NOT_ALL = ("There are more than ", "Some orders end where ", "Interrupted: ")
+NOT_ALL = ("There are more than ", "Some orders end where ", "Interrupted: ", "Memory was refused to ")
 HEAD = re.compile(r"[\d,]+ ends?(?: so far)? in (.*) \(")
 PART = re.compile(r", part (\d+) of (\d+)\b")
 BAD = "bad: "
@@ -99,7 +99,7 @@ class Assertions:
         if missing:
             tried = f"not all orders: {missing_text(missing)}"
         else:
-            all_orders = f"all orders, in {counted(self.parts, 'part')}"
+            all_orders = f"all orders by the model, in {counted(self.parts, 'part')}"
             tried = all_orders if self.is_all else "not all orders, as some of the parts say"
         print(f"{summary_of(counts)}; {tried}")
         return 1 if counts[BROKEN] else 5 if counts[UNDECIDED] else 0

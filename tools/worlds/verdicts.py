@@ -6,16 +6,20 @@ from meaning.scenario import joined
 from meaning.telling import counted
 from meaning.trouble import Trouble
 
+from .asking import MEMORY, ask, is_settled, words_for
 from .bad import Shrinking
 from .deciding import BROKEN, HOLDS, UNDECIDED, Asserted
 from .ends import CAUSES, end_name, end_reasons
+from .exploring import so_far
 from .orders import run_of
 from .paths import lines_in, shortest_orders
 from .report import CONFIRMED, INDENT, NOT_YET, turns_text
 from .turns import choices, played
 
-# What is told below an assertion of which nothing, or something else, was seen.
+# What is told below an assertion of which nothing, or something else, was seen, and on what that rests, if it isn't the
+# lab's own search.
 IN_NONE = "in none of all orders"
+BY_MODEL = "by the model"
 NOT_SEEN = "not seen in these orders: "
 
 
@@ -95,8 +99,10 @@ class Verdicts:
         assertion = verdict.sight.assertion
         lines = [f"{self.path}:{assertion.line}: {verdict.found}: {assertion.text}"]
         if verdict.found == BROKEN and turns is None:
-            lines.append(INDENT + IN_NONE)
-        elif turns is not None:
+            lines.append(INDENT + IN_NONE + f", {BY_MODEL}" * verdict.is_by_model)
+        elif turns is None:
+            lines += [INDENT + BY_MODEL] if verdict.is_by_model else []
+        else:
             reasons = self.reasons(verdict.sight, turns) if verdict.found == BROKEN else []
             lines += [INDENT + line for line in [*reasons, turns_text(turns, self.exploring.telling)]]
         return lines
@@ -140,20 +146,35 @@ class Verdicts:
 
 
 class Decided:
-    """All assertions of a scenario, decided by a search of all orders or of a part of them."""
+    """All assertions of a scenario, decided by a search of all orders or of a part of them. What was seen has a schedule
+    which the lab runs. That the rest is in no order the lab's own search tells, where it can be asked, and else the model,
+    of which the lab runs each step then."""
 
     def __init__(self, path, exploring, assertions, most, part=(1, 1)):
         self.path, self.exploring, self.assertions = path, exploring, assertions
         self.asserted = Asserted(assertions)
         self.found = exploring.search(self.asserted, most, part)
-        exploring.confirm_steps(self.found)
         self.asserted.endless(self.found.endless())
-        self.is_all = self.found.is_whole and part[1] == 1
-        self.verdicts = Verdicts(path, exploring, self.asserted.verdicts(self.is_all), self.found)
-        self.turns = self.verdicts.turns_of_orders(self.found.graph)
+        with so_far(self.found):
+            self.answer, by_model = self.ask(most) if self.found.is_all else (None, ())
+            self.is_all = self.answer is not None and self.answer.is_whole
+            self.has_steps = part[1] > 1 or self.is_all and bool(by_model)
+            if self.has_steps:
+                exploring.confirm_steps(self.found)
+            self.verdicts = Verdicts(path, exploring, self.asserted.verdicts(self.is_all, by_model), self.found)
+            self.turns = self.verdicts.turns_of_orders(self.found.graph)
+
+    def ask(self, most):
+        """The answer of the lab's own search, and what nobody has seen and that search doesn't settle either."""
+        missing = self.asserted.missing
+        unseen = [sight for sight in self.asserted.sights if not sight.is_seen]
+        # of what is nowhere there is nothing to ask
+        known = [sight for sight in unseen if missing.isdisjoint(sight.assertion.named_objects())]
+        answer = ask(self.exploring, self.found, most, [words for sight in known for words in words_for(sight)])
+        return answer, [sight for sight in unseen if sight not in known or not is_settled(sight, answer)]
 
     def tried(self):
-        return tried_text(self.found, self.exploring)
+        return tried_text(self.found, self.exploring, self.answer, self.has_steps)
 
     def refuse_missing(self):
         """Refuses what is in no order, once all were tried."""
@@ -167,10 +188,13 @@ def line_of(assertion):
     return assertion.line.split(" ")[0]
 
 
-def tried_text(found, exploring):
-    """Which orders a search has tried."""
+def tried_text(found, exploring, answer=None, has_steps=True):
+    """Which orders a search has tried, with the answer of the lab's own one, if it was asked; and whether the lab has run
+    each step."""
     (part, parts), counts = found.part, found.counts()
-    if found.graph.has_too_many:
+    if answer and answer.last[0] == MEMORY:
+        orders = "not all orders: memory was refused to zlab explore"
+    elif found.graph.has_too_many or answer and not answer.is_whole:
         orders = "not all orders: --worlds N takes more"
     elif found.graph.is_cut:
         orders = f"not all orders: some end where the trace has {exploring.first.limit:,} items, more by a line `limit N`"
@@ -181,4 +205,6 @@ def tried_text(found, exploring):
     else:
         orders = f"all {counted(sum(counts.values()), 'order')}"
     whose = f"part {part} of {parts}, " if parts > 1 else ""
-    return f"{whose}{orders} ({counted(len(found.graph.came), 'world')} by the model; the lab ran each step)"
+    worlds = counted(len(found.graph.came), "world")
+    basis = [f"by zlab explore; {worlds} of the model"] if answer and answer.is_whole else [f"{worlds} by the model"]
+    return f"{whose}{orders} ({'; '.join([*basis, *['the lab ran each step'] * has_steps])})"

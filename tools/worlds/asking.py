@@ -1,0 +1,135 @@
+"""What `zlab explore`, the lab's own search, is asked of all orders, and its answer, which has to be that of the model."""
+from typing import NamedTuple
+
+from meaning.asserting import ANY, Ended, Has, In
+from meaning.numbers import STUCK
+from meaning.scenario import joined
+from meaning.trouble import Trouble
+
+from .ends import states_name
+from .orders import run_of
+from .report import turns_text
+
+# How many things no order may have are asked of one search, and how many worlds it takes.
+MOST_THINGS, MOST_WORLDS = 16, 1_000_000_000
+# The first words of its last line.
+ALL, CUT, MEMORY, BAD = "all", "cut", "memory", "bad"
+# What an end is called at which there is no process.
+NOBODY = "without processes"
+# What it is asked of the facts that a process is stuck or blocked in some world: one that ends itself with the code of
+# those that are stuck counts as stuck.
+ASKED_OF = {"stuck": ("stuck", f"* ended {STUCK}"), "blocked": ("* blocked",)}
+
+
+class Answer(NamedTuple):
+    """What the search has written: its ends by their names, each with a schedule, whether somebody is blocked at one,
+    whether some orders come to none, the words of its last line, and the schedule that stands last."""
+    ends: dict
+    has_blocked: bool
+    is_endless: bool
+    last: list
+    turns: list
+
+    @property
+    def is_whole(self):
+        return self.last[0] == ALL
+
+
+def read_answer(lines, telling):
+    """The answer in the lines of a search."""
+    ends, states, turns, has_blocked, is_endless = {}, None, [], False, False
+    for line in lines[:-1]:
+        words = line.split(" ")
+        if words[0] == "end":
+            states = []
+        elif words[0] == "process":
+            states.append((int(words[1]), " ".join(words[2:])))
+            has_blocked = has_blocked or words[2] == "blocked"
+        elif words[0] == "by":
+            turns = []
+            # above what is bad in the middle of an order there is no end
+            if states is not None:
+                ends[states_name(states, telling)], states = turns, None
+        elif words[0] == "endless":
+            is_endless = True
+        else:
+            turns.append((int(words[0]), int(words[1])))
+    last = lines[-1].split(" ") if lines else [""]
+    if last[0] not in (ALL, CUT, MEMORY, BAD):
+        raise Trouble(f"zlab explore has another last line than it may have: {' '.join(last)}")
+    return Answer(ends, has_blocked, is_endless, last, turns)
+
+
+# ---- assertions
+
+
+def words_for(sight):
+    """The words by which the search is asked whether some order has what the assertion is about, if it can be."""
+    facts = sight.in_worlds.facts if sight.in_worlds else ()
+    if sight.item:
+        item = sight.item
+        return [f"{star(item.who)} {star(item.call)} {answer}" for answer in item.answers or ("*",)]
+    if len(facts) == 1 and isinstance(facts[0], In):
+        return [f"{star(facts[0].who)} {words}" for words in ASKED_OF[facts[0].state]]
+    return []
+
+
+def star(one):
+    return "*" if one == ANY else one
+
+
+def is_settled(sight, answer):
+    """Whether a whole search tells of an assertion, of which nothing is seen at the ends that it has, that no order has
+    it. Where it is about one moment of an order, the search was asked."""
+    if words_for(sight):
+        return True
+    # an end at which somebody goes round is none to the search
+    if answer.is_endless:
+        return False
+    if sight.at_ends:
+        return not any(isinstance(fact, Has) for fact in sight.at_ends.facts)
+    if sight.in_worlds:
+        # who has ended stays so up to an end, and from each world one is reached
+        return all(isinstance(fact, Ended) or isinstance(fact, In) and fact.state == "stuck" for fact in sight.in_worlds.facts)
+    return not (sight.cause and sight.cause.name in ("deadlock", "blocked for good") and answer.has_blocked)
+
+
+# ---- the search
+
+
+def ask(exploring, found, most, words=()):
+    """The answer of the lab's own search to what the model has found by a whole one: it has to have the same ends, and no
+    order with one of these words."""
+    words = list(dict.fromkeys(words))
+    parts = [words[at:at + MOST_THINGS] for at in range(0, len(words), MOST_THINGS)] or [[]]
+    for part in parts:
+        lines = exploring.lab.explored(exploring.short_text, min(most, MOST_WORLDS), part)
+        answer = read_answer(lines, exploring.telling)
+        difference = difference_of(found, answer)
+        if difference:
+            raise Trouble(f"zlab explore and the model of {exploring.tool} part on this scenario: {difference}")
+        if not answer.is_whole:
+            break
+    return answer
+
+
+def difference_of(found, answer):
+    """What the search of the lab has and that of the model hasn't, or the other way round; nothing where they agree."""
+    graph = found.graph
+    if answer.last[0] == BAD:
+        return f"no order of the model has {' '.join(answer.last[1:])}, to which zlab explore comes by {turns_text(answer.turns)}"
+    numbers = {end.name: number for number, end in graph.ends.items() if not end.is_round}
+    for name, turns in answer.ends.items():
+        if name not in numbers:
+            return f"the model has no end {name or NOBODY}, to which zlab explore comes by {turns_text(turns)}"
+    if not answer.is_whole:
+        return None
+    for name, number in numbers.items():
+        if name not in answer.ends:
+            turns = turns_text(joined(run_of(graph.first, graph.order_to(number)).turns))
+            return f"zlab explore has no end {name or NOBODY}, to which the model comes by {turns}"
+    is_endless = bool(found.endless()) or any(end.is_round for end in graph.ends.values())
+    if answer.is_endless != is_endless:
+        one, other = ("zlab explore", "the model") if answer.is_endless else ("the model", "zlab explore")
+        return f"{one} has orders that come to no end any more, and {other} has none"
+    return None

@@ -66,14 +66,14 @@ def try_undecided(tools):
     verdicts = [line for line in whole if line.startswith("bell.zlt:")]
     # what a part can find is what a schedule shows
     shown = {line for line, below in zip(whole, whole[1:])
-             if line in verdicts and below.startswith("    ") and "in none" not in below}
+             if line in verdicts and below.startswith("    ") and not below.startswith(("    in none", "    by the model"))}
     parts = [tools.explore("--part", f"{part}/2", "bell.zlt").stdout for part in (1, 2)]
     found = {line for part in parts for line in part.splitlines() if ": broken: " in line or ": holds: " in line}
     yield "what parts have seen", found, shown
     added = tools.run("explore", "--sum", given="".join(parts))
     seen = [line for line in added.stdout.splitlines() if line.startswith("bell.zlt:")]
     yield "parts added up", (added.returncode, seen, added.stdout.splitlines()[-1]), (
-        1, verdicts, "6 broken, 15 hold, 0 not decided; all orders, in 2 parts")
+        1, verdicts, "6 broken, 15 hold, 0 not decided; all orders by the model, in 2 parts")
     added = tools.run("explore", "--sum", given=parts[0])
     yield "a part is missing", added.stdout.splitlines()[-1].split("; ")[1], (
         "not all orders: 1 part of the search is missing, 2")
@@ -106,7 +106,87 @@ def try_parting(tools):
     shutil.copy(ASSERTIONS / "causes.zls", tools.room)
     found = tools.run("try-all", "--zlab", lab, ".")
     yield "a wrong model among others", (found.returncode, found.stdout.splitlines()[-1], found.stderr.count("\n")), (
-        2, "0 as wanted, 0 not, 2 without an output; 3 assertions hold, 4 broken, 0 not decided", 1)
+        2, "0 as wanted, 0 not, 2 without an output; 3 assertions hold, 2 of them by the model, 4 broken, 0 not decided", 1)
+
+
+# A process that ends with 7 in its one turn; what is asked of it; and a program that searches as it is told.
+ONE = "program raw asm\n    process_exit r1\nend\nprocess 1 0 7\n"
+ASKED = "#? never 2 stuck, blocked for good\n#? sometimes any any BAD_HANDLE\n"
+SEARCHING = """#!/usr/bin/env bash
+[ "$1" = explore ] || exec "{program}" "$@"
+cat > /dev/null
+printf '%s\\n' {written}
+exit {status}
+"""
+END = ["end", "process 2 ended 7", "by", "2 1"]
+LAST = "all 2 worlds 1 turns 1 ends"
+# What the lab may write of it, its status, and what explore says then, or how it goes on where all is well.
+SEARCHES = {
+    "as it is": ([*END, LAST], 0, None),
+    "another end": (["end", "process 2 ended 8", "by", "2 1", LAST], 0, "the model has no end 2 ended 8, to which zlab explore comes by 2 1"),
+    "an end more": ([*END, "end", "process 2 blocked", "by", "2 1", LAST], 0,
+                    "the model has no end 2 blocked, to which zlab explore comes by 2 1"),
+    "no end": ([LAST], 0, "zlab explore has no end 2 ended 7, to which the model comes by 2 1"),
+    "orders without an end": ([*END, "endless", LAST], 0,
+                              "zlab explore has orders that come to no end any more, and the model has none"),
+}
+
+
+def searching(tools, written, status):
+    """A program that answers so when it is asked of all orders."""
+    lab = tools.room / "searching"
+    quoted = " ".join(f"'{line}'" for line in written)
+    lab.write_text(SEARCHING.format(program=tools.program, written=quoted, status=status))
+    lab.chmod(0o755)
+    return lab
+
+
+def try_searches(tools):
+    """Where the lab's own search has another answer than the model that is all, whatever else holds."""
+    (tools.room / "one.zls").write_text(ONE)
+    (tools.room / "asked.zls").write_text(ASKED + ONE)
+    holds = ["asked.zls:1: holds: never 2 stuck", "asked.zls:1: holds: never blocked for good",
+             "asked.zls:2: broken: sometimes any any BAD_HANDLE", "    in none of all orders"]
+    basis = "the only order (by zlab explore; 2 worlds of the model)"
+    for what, (written, status, told) in SEARCHES.items():
+        lab = searching(tools, written, status)
+        wanted = f"explore: zlab explore and the model of explore part on this scenario: {told}\n" if told else ""
+        found = tools.run("explore", "--zlab", lab, "one.zls")
+        last = ["No end has other states, by zlab explore; the rest is by the model."] if not told else []
+        yield f"a search: {what}", (found.returncode, found.stdout.splitlines()[-1:], found.stderr), (2 if told else 0, last, wanted)
+        found = tools.run("explore", "--zlab", lab, "asked.zls")
+        lines = [] if told else [*holds, f"1 broken, 2 hold, 0 not decided; {basis}"]
+        yield f"asked: {what}", (found.returncode, found.stdout.splitlines(), found.stderr), (2 if told else 1, lines, wanted)
+    found = tools.run("explore", "--zlab", searching(tools, ["by", "2 1", "bad 2 stuck"], 1), "asked.zls")
+    wanted = ("explore: zlab explore and the model of explore part on this scenario: no order of the model has 2 stuck, to "
+              "which zlab explore comes by 2 1\n")
+    yield "asked: a bad order", (found.returncode, found.stdout, found.stderr), (2, "", wanted)
+    found = tools.run("try-all", "--zlab", searching(tools, [LAST], 0), ".")
+    told = "try-all: asked.zls: zlab explore and the model of try-all part on this scenario: zlab explore has no end 2 ended 7, "
+    yield "a folder: no end", (found.returncode, found.stderr.startswith(told)), (2, True)
+
+
+def try_searches_cut(tools):
+    """Where the lab's own search hasn't met all worlds not all orders are known, and what it was refused is told."""
+    (tools.room / "one.zls").write_text(ONE)
+    (tools.room / "asked.zls").write_text(ASKED + ONE)
+    for word, status, told, listed in [("cut", 5, "--worlds N takes more", "There are more than 100000 worlds: "),
+                                       ("memory", 4, "memory was refused to zlab explore", "Memory was refused to zlab explore: ")]:
+        lab = searching(tools, [*END, f"{word} 2 worlds 1 turns 1 ends"], status)
+        found = tools.run("explore", "--zlab", lab, "one.zls")
+        lines = found.stdout.splitlines()
+        yield f"a search: {word}", (found.returncode, lines[0].split(" (")[0], listed in lines[-1]), (
+            5, "1 end in 1 order of calls, which aren't all", True)
+        found = tools.run("explore", "--zlab", lab, "asked.zls")
+        last = f"0 broken, 0 hold, 3 not decided; not all orders: {told} (2 worlds by the model)"
+        yield f"asked: {word}", (found.returncode, found.stdout.splitlines()[-1]), (5, last)
+        found = tools.run("try-all", "--zlab", lab, ".")
+        yield f"a folder: {word}", (found.returncode, found.stdout.splitlines()[-1].split("; ")[1]), (
+            5, "0 assertions hold, 0 broken, 3 not decided")
+    for written, status, wanted in [([*END], 0, "zlab explore has another last line than it may have: 2 1"),
+                                    (["of no kind"], 2, "of no kind")]:
+        found = tools.run("explore", "--zlab", searching(tools, written, status), "one.zls")
+        yield f"a search: {written}", (found.returncode, found.stdout, found.stderr), (2, "", f"explore: {wanted}\n")
 
 
 def try_refused_assertions(tools):
@@ -165,7 +245,7 @@ def try_folder_of_assertions(tools):
     told = [line for name in ("bell", "causes") for line in (ASSERTIONS / f"{name}.told").read_text().splitlines()]
     broken = [f"all/{line}" for line in told if ": broken: " in line]
     status, lines = found()
-    last = "0 as wanted, 0 not, 3 without an output; 18 assertions hold, 10 broken, 0 not decided"
+    last = "0 as wanted, 0 not, 3 without an output; 18 assertions hold, 4 of them by the model, 10 broken, 0 not decided"
     yield "assertions of a folder", (status, [line for line in lines if ": broken: " in line], lines[-1]), (1, broken, last)
     yield "no files of them", sorted(path.name for path in tools.room.iterdir()), ["all"]
     status, lines = found("--worlds", "1")

@@ -4,6 +4,7 @@ from typing import NamedTuple
 from meaning.asserting import ANY, Ended, Has, In
 from meaning.numbers import STUCK
 from meaning.scenario import joined
+from meaning.telling import counted
 from meaning.trouble import Trouble
 
 from .ends import states_name
@@ -103,6 +104,7 @@ def ask(exploring, found, most, words=()):
     words = list(dict.fromkeys(words))
     parts = [words[at:at + MOST_THINGS] for at in range(0, len(words), MOST_THINGS)] or [[]]
     for part in parts:
+        exploring.progress.say(f"{counted(len(found.graph.came), 'world')}; zlab explore goes through them")
         lines = exploring.lab.explored(exploring.short_text, min(most, MOST_WORLDS), part)
         answer = read_answer(lines, exploring.telling)
         difference = difference_of(found, answer)

@@ -183,8 +183,8 @@ def try_searches_cut(tools):
         found = tools.run("try-all", "--zlab", lab, ".")
         yield f"a folder: {word}", (found.returncode, found.stdout.splitlines()[-1].split("; ")[1]), (
             5, "0 assertions hold, 0 broken, 3 not decided")
-    for written, status, wanted in [([*END], 0, "zlab explore has another last line than it may have: 2 1"),
-                                    (["of no kind"], 2, "of no kind")]:
+    other = "zlab explore writes other lines than it may: --zlab PROGRAM names another program"
+    for written, status, wanted in [(END, 0, other), (["process", LAST], 0, other), (["of no kind"], 2, "of no kind")]:
         found = tools.run("explore", "--zlab", searching(tools, written, status), "one.zls")
         yield f"a search: {written}", (found.returncode, found.stdout, found.stderr), (2, "", f"explore: {wanted}\n")
 

@@ -36,28 +36,35 @@ class Answer(NamedTuple):
         return self.last[0] == ALL
 
 
-def read_answer(lines, telling):
+def answer_in(lines, telling):
     """The answer in the lines of a search."""
-    ends, states, turns, has_blocked, is_endless = {}, None, [], False, False
+    try:
+        return read_answer(lines, telling)
+    except (ValueError, IndexError):
+        raise Trouble("zlab explore writes other lines than it may: --zlab PROGRAM names another program") from None
+
+
+def read_answer(lines, telling):
+    ends, states, turns, is_end, has_blocked, is_endless = {}, [], [], False, False, False
     for line in lines[:-1]:
         words = line.split(" ")
         if words[0] == "end":
-            states = []
+            states, is_end = [], True
         elif words[0] == "process":
             states.append((int(words[1]), " ".join(words[2:])))
             has_blocked = has_blocked or words[2] == "blocked"
         elif words[0] == "by":
             turns = []
             # above what is bad in the middle of an order there is no end
-            if states is not None:
-                ends[states_name(states, telling)], states = turns, None
+            if is_end:
+                ends[states_name(states, telling)], is_end = turns, False
         elif words[0] == "endless":
             is_endless = True
         else:
             turns.append((int(words[0]), int(words[1])))
-    last = lines[-1].split(" ") if lines else [""]
+    last = lines[-1].split(" ")
     if last[0] not in (ALL, CUT, MEMORY, BAD):
-        raise Trouble(f"zlab explore has another last line than it may have: {' '.join(last)}")
+        raise ValueError(last)
     return Answer(ends, has_blocked, is_endless, last, turns)
 
 
@@ -106,7 +113,7 @@ def ask(exploring, found, most, words=()):
     for part in parts:
         exploring.progress.say(f"{counted(len(found.graph.came), 'world')}; zlab explore goes through them")
         lines = exploring.lab.explored(exploring.short_text, min(most, MOST_WORLDS), part)
-        answer = read_answer(lines, exploring.telling)
+        answer = answer_in(lines, exploring.telling)
         difference = difference_of(found, answer)
         if difference:
             raise Trouble(f"zlab explore and the model of {exploring.tool} part on this scenario: {difference}")

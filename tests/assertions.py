@@ -115,7 +115,7 @@ ASKED = "#? never 2 stuck, blocked for good\n#? sometimes any any BAD_HANDLE\n"
 SEARCHING = """#!/usr/bin/env bash
 [ "$1" = explore ] || exec "{program}" "$@"
 cat > /dev/null
-printf '%s\\n' {written}
+for line in {written}; do echo "$line"; done
 exit {status}
 """
 END = ["end", "process 2 ended 7", "by", "2 1"]
@@ -184,7 +184,8 @@ def try_searches_cut(tools):
         yield f"a folder: {word}", (found.returncode, found.stdout.splitlines()[-1].split("; ")[1]), (
             5, "0 assertions hold, 0 broken, 3 not decided")
     other = "zlab explore writes other lines than it may: --zlab PROGRAM names another program"
-    for written, status, wanted in [(END, 0, other), (["process", LAST], 0, other), (["of no kind"], 2, "of no kind")]:
+    for written, status, wanted in [(END, 0, other), (["process", LAST], 0, other), (["of no kind"], 2, "of no kind"),
+                                    ([], 4, f"{tools.room / 'searching'} ended with status 4")]:
         found = tools.run("explore", "--zlab", searching(tools, written, status), "one.zls")
         yield f"a search: {written}", (found.returncode, found.stdout, found.stderr), (2, "", f"explore: {wanted}\n")
 

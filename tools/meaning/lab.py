@@ -96,9 +96,10 @@ class Lab:
             self.must([], scenario)
 
     def written(self, words, given, fine=(0,)):
-        """What it writes, where its status is fine; else Trouble says in its words what is wrong."""
+        """What it writes, where its status is fine, and it writes anything if that isn't 0; else Trouble says in its words
+        what is wrong."""
         status, output, said = self.start(words, given)
-        if status not in fine:
+        if status not in fine or status and not output:
             lines = [self.told(line) if self.told else line
                      for line in (output + said).decode(errors="replace").splitlines() if line]
             raise Trouble("; ".join(lines[:2]) or f"{self.program} ended with status {status}")

@@ -123,7 +123,8 @@ LAST = "all 2 worlds 1 turns 1 ends"
 # What the lab may write of it, its status, and what explore says then, or how it goes on where all is well.
 SEARCHES = {
     "as it is": ([*END, LAST], 0, None),
-    "another end": (["end", "process 2 ended 8", "by", "2 1", LAST], 0, "the model has no end 2 ended 8, to which zlab explore comes by 2 1"),
+    "another end": (["end", "process 2 ended 8", "by", "2 1", LAST], 0,
+                    "the model has no end 2 ended 8, to which zlab explore comes by 2 1"),
     "an end more": ([*END, "end", "process 2 blocked", "by", "2 1", LAST], 0,
                     "the model has no end 2 blocked, to which zlab explore comes by 2 1"),
     "no end": ([LAST], 0, "zlab explore has no end 2 ended 7, to which the model comes by 2 1"),
@@ -153,7 +154,8 @@ def try_searches(tools):
         wanted = f"explore: zlab explore and the model of explore part on this scenario: {told}\n" if told else ""
         found = tools.run("explore", "--zlab", lab, "one.zls")
         last = ["No end has other states, by zlab explore; the rest is by the model."] if not told else []
-        yield f"a search: {what}", (found.returncode, found.stdout.splitlines()[-1:], found.stderr), (2 if told else 0, last, wanted)
+        yield f"a search: {what}", (found.returncode, found.stdout.splitlines()[-1:], found.stderr), (
+            2 if told else 0, last, wanted)
         found = tools.run("explore", "--zlab", lab, "asked.zls")
         lines = [] if told else [*holds, f"1 broken, 2 hold, 0 not decided; {basis}"]
         yield f"asked: {what}", (found.returncode, found.stdout.splitlines(), found.stderr), (2 if told else 1, lines, wanted)
@@ -170,8 +172,9 @@ def try_searches_cut(tools):
     """Where the lab's own search hasn't met all worlds not all orders are known, and what it was refused is told."""
     (tools.room / "one.zls").write_text(ONE)
     (tools.room / "asked.zls").write_text(ASKED + ONE)
-    for word, status, told, listed in [("cut", 5, "--worlds N takes more", "There are more than 100000 worlds: "),
-                                       ("memory", 4, "memory was refused to zlab explore", "Memory was refused to zlab explore: ")]:
+    for word, status, told, listed in [
+            ("cut", 5, "--worlds N takes more", "There are more than 100000 worlds: "),
+            ("memory", 4, "memory was refused to zlab explore", "Memory was refused to zlab explore: ")]:
         lab = searching(tools, [*END, f"{word} 2 worlds 1 turns 1 ends"], status)
         found = tools.run("explore", "--zlab", lab, "one.zls")
         lines = found.stdout.splitlines()

@@ -171,7 +171,9 @@ def try_searches(tools):
 def try_searches_cut(tools):
     """Where the lab's own search hasn't met all worlds not all orders are known, and what it was refused is told."""
     (tools.room / "one.zls").write_text(ONE)
-    (tools.room / "asked.zls").write_text(ASKED + ONE)
+    (tools.room / "asked.zls").write_text(ASKED + "#? never 2 has job 1\n" + ONE)
+    undecided = [f"asked.zls:{line}: not decided: {text}" for line, text in [
+        (1, "never 2 stuck"), (1, "never blocked for good"), (2, "sometimes any any BAD_HANDLE"), (3, "never 2 has job 1")]]
     for word, status, told, listed in [
             ("cut", 5, "--worlds N takes more", "There are more than 100000 worlds: "),
             ("memory", 4, "memory was refused to zlab explore", "Memory was refused to zlab explore: ")]:
@@ -181,11 +183,11 @@ def try_searches_cut(tools):
         yield f"a search: {word}", (found.returncode, lines[0].split(" (")[0], listed in lines[-1]), (
             5, "1 end in 1 order of calls, which aren't all", True)
         found = tools.run("explore", "--zlab", lab, "asked.zls")
-        last = f"0 broken, 0 hold, 3 not decided; not all orders: {told} (2 worlds by the model)"
-        yield f"asked: {word}", (found.returncode, found.stdout.splitlines()[-1]), (5, last)
+        last = f"0 broken, 0 hold, 4 not decided; not all orders: {told} (2 worlds by the model)"
+        yield f"asked: {word}", (found.returncode, found.stdout.splitlines()), (5, [*undecided, last])
         found = tools.run("try-all", "--zlab", lab, ".")
         yield f"a folder: {word}", (found.returncode, found.stdout.splitlines()[-1].split("; ")[1]), (
-            5, "0 assertions hold, 0 broken, 3 not decided")
+            5, "0 assertions hold, 0 broken, 4 not decided")
     other = "zlab explore writes other lines than it may: --zlab PROGRAM names another program"
     for written, status, wanted in [(END, 0, other), (["process", LAST], 0, other), (["of no kind"], 2, "of no kind"),
                                     ([], 4, f"{tools.room / 'searching'} ended with status 4")]:

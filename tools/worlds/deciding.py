@@ -157,8 +157,8 @@ class Asserted(Nothing):
                 sight.worlds.update(numbers)
 
     def verdicts(self, is_whole, by_model=()):
-        """What is known of each, once all orders were tried or some; of these sights by the model alone."""
-        return [Verdict(sight, found_of(sight, is_whole), sight in by_model) for sight in self.sights]
+        """What is known of each, once all orders were tried or some; of these sights by the model alone, if it is known."""
+        return [Verdict(sight, found_of(sight, is_whole), is_whole and sight in by_model) for sight in self.sights]
 
 
 def found_of(sight, is_whole):

@@ -1,16 +1,19 @@
 //! All orders of the turns of a running world: how many worlds they lead to, and where they end; and
 //! copies of a world, which go on as it does.
+//!
+//! A world and a search have many parts, and a proof goes through all of them wherever a function that
+//! has one lends it or lets it go. So a small function makes each, lends it once, and gives plain numbers.
 
-ghost use Rattle.std.specs.Prelude.{IfOk};
+ghost use Rattle.std.specs.Prelude.{IfSome};
 ghost use Rattle.zl_calls.specs.World.{own_here};
 ghost use Rattle.zl_explore.specs.Private.{IsStill};
 
-use std::alloc::Global;
+use std::alloc::{AllocError, Global};
 use std::test::*;
 use zl_asm::assemble_bytes;
 use zl_calls::World;
 use zl_code::{Boot, Grant, Grants, ProcState, Statement};
-use zl_explore::{Bad, Next, Search, named_end, read_bad};
+use zl_explore::{Bad, End, Next, Search, named_end, read_bad};
 use zl_interp::{Library, Program};
 use zl_rights::{Koid, Pid};
 
@@ -51,8 +54,65 @@ const QUEUES: &str = ".raw
     process_exit r21
 ";
 
+/// Patterns.
+const SPELLED: &[&str] = &[
+    "* blocked",
+    "7 created",
+    "18446744073709551615 stuck",
+    "6 ended -2147483648",
+    "* ended 0",
+    "6 chan_write PEER_CLOSED",
+    "* * *",
+    "* * blocked",
+    "4 port_wait *",
+    "4 process_exit ended 7",
+];
+
+/// None of them spells a pattern.
+const NOT_SPELLED: &[&str] = &[
+    "",
+    "*",
+    "6",
+    "* ready",
+    "* blocked ",
+    " * blocked",
+    "*  blocked",
+    "06 blocked",
+    "+6 blocked",
+    "-1 blocked",
+    "18446744073709551616 stuck",
+    "6 ended",
+    "6 ended 2147483648",
+    "6 ended +1",
+    "6 ended 0x1",
+    "6 ended *",
+    "6 chan_write",
+    "6 chan_writ PEER_CLOSED",
+    "6 chan_write PEERCLOSED",
+    "6 chan_write ended",
+    "6 chan_write blocked 1",
+    "6 chan_write OK OK",
+    "6 process_exit ended 1 2",
+    "any blocked",
+];
+
+/// The programs of the three processes.
+fn library(alloc: Global) -> Option<Library> {
+    let mut library = Library::new(alloc);
+    for text in [TAKES, QUEUES] {
+        push_program(alloc, &mut library, text)?;
+    }
+    Some(library)
+}
+
+/// The program of the text comes behind the others.
+fn push_program(alloc: Global, library: &mut Library, text: &str) -> Option<()> {
+    let image = assemble_bytes(alloc, text.as_bytes()).ok()?;
+    library.push(Program::Raw(image)).ok()
+}
+
 /// One handle to the port, and three to the event where they are wanted.
-fn grants(alloc: Global, wants_events: bool) -> Result<Grants, Fail> {
+fn grants(alloc: Global, wants_events: bool) -> Result<Grants, AllocError> {
     let mut grants = Grants::new(alloc);
     for koid in [PORT, EVENT, EVENT, EVENT] {
         if koid == PORT || wants_events {
@@ -62,99 +122,134 @@ fn grants(alloc: Global, wants_events: bool) -> Result<Grants, Fail> {
     Ok(grants)
 }
 
-/// A world with one that takes packets, the process 4, and two that queue them.
-fn world(alloc: Global) -> Result<World, Fail>
-    ensures { IfOk result (λ world. IsStill (own_here world)) }
-{
-    let mut library = Library::new(alloc);
-    for text in [TAKES, QUEUES] {
-        let image = assemble_bytes(alloc, text.as_bytes())
-            .ok()
-            .ok_or("the text is a program")?;
-        if library.push(Program::Raw(image)).is_err() {
-            return Err(Fail::from("memory was refused"));
-        }
-    }
-    let mut statements = Vec::new(alloc);
+/// The process whose word this is comes behind what the boot makes before it.
+fn push_process(
+    alloc: Global,
+    statements: &mut Vec<Statement>,
+    word: u64,
+) -> Result<(), AllocError> {
+    statements.push(Statement::Process {
+        job: ROOT,
+        program: u64::from(word > 0),
+        word,
+        handles: grants(alloc, word == 0)?,
+    })?;
+    Ok(())
+}
+
+/// A port, an event, and three processes.
+fn statements(alloc: Global) -> Result<Vec<Statement>, AllocError> {
+    let mut statements = Vec::with_capacity(alloc, 5)?;
     statements.push(Statement::Port)?;
     statements.push(Statement::Event)?;
     for word in 0..3 {
-        statements.push(Statement::Process {
-            job: ROOT,
-            program: u64::from(word > 0),
-            word,
-            handles: grants(alloc, word == 0)?,
-        })?;
+        push_process(alloc, &mut statements, word)?;
     }
+    Ok(statements)
+}
+
+/// A world with one that takes packets, the process 4, and two that queue them.
+fn world(alloc: Global) -> Option<World>
+    ensures { IfSome result (λ world. IsStill (own_here world)) }
+{
     let boot = Boot {
-        statements,
+        statements: statements(alloc).ok()?,
         limit: 10,
     };
-    match World::boot(alloc, library, &boot) {
-        Ok(world) => Ok(world),
-        Err(_) => Err(Fail::from("the boot is refused")),
+    match World::boot(alloc, library(alloc)?, &boot) {
+        Ok(world) => Some(world),
+        Err(_) => None,
     }
 }
 
-/// Goes on to the last end: how many ends there are, and whether these are all.
-fn ends_of(search: &mut Search) -> (usize, bool) {
+/// The patterns with these words.
+fn patterns(alloc: Global, words: &[&str]) -> Option<Vec<Bad>> {
+    let mut patterns = Vec::new(alloc);
+    for one in words {
+        patterns.push(pattern(alloc, one)?).ok()?;
+    }
+    Some(patterns)
+}
+
+/// The pattern with these words.
+fn pattern(alloc: Global, words: &str) -> Option<Bad> {
+    read_bad(alloc, words).ok()?
+}
+
+/// A search that meets no more worlds than so many, for what no order may have.
+fn search_of(alloc: Global, bad: &[&str], most: usize) -> Option<Search> {
+    let bad = patterns(alloc, bad)?;
+    Search::new(alloc, world(alloc)?, bad, most).ok()
+}
+
+/// What a search told.
+#[derive(Clone, Copy)]
+struct Told {
+    /// How many ends.
+    ends: usize,
+    /// Whether one goes on for ever, where these are all ends.
+    endless: Option<bool>,
+    /// How many worlds it met.
+    worlds: usize,
+    /// How many turns it took.
+    turns: u64,
+}
+
+/// Goes on to the last end: how many ends there are, and whether one goes on for ever, where these are all.
+fn ends_of(search: &mut Search) -> (usize, Option<bool>) {
     let mut ends: usize = 0;
     for _ in 0..1_000 {
         match search.next_end() {
             Next::End(_) => ends = ends.saturating_add(1),
-            Next::All { .. } => return (ends, true),
-            Next::Bad(_) | Next::Cut | Next::Memory => return (ends, false),
+            Next::All { endless } => return (ends, Some(endless)),
+            Next::Bad(_) | Next::Cut | Next::Memory => return (ends, None),
         }
     }
-    (ends, false)
+    (ends, None)
+}
+
+/// Goes on to the last end: what was told by then.
+fn tell(search: &mut Search) -> Told {
+    let (ends, endless) = ends_of(search);
+    Told {
+        ends,
+        endless,
+        worlds: search.worlds(),
+        turns: search.turns(),
+    }
+}
+
+/// What such a search tells.
+fn told_by(alloc: Global, bad: &[&str], most: usize) -> Option<Told> {
+    let mut search = search_of(alloc, bad, most)?;
+    Some(tell(&mut search))
 }
 
 #[test]
-fn freed_values_tell_worlds_apart(rt: HostRuntime) -> Result<(), Fail> {
-    let mut search = Search::new(rt.alloc(), world(rt.alloc())?, Vec::new(rt.alloc()), 1_000)?;
-    assert_eq!(rt; ends_of(&mut search), (2, true));
-    assert_eq!(rt; search.worlds(), 98);
-    assert_eq!(rt; search.turns(), 193);
-    Ok(())
+fn freed_values_tell_worlds_apart(rt: HostRuntime) {
+    let told = told_by(rt.alloc(), &[], 1_000).expect(&rt, "the search begins");
+    assert_eq!(rt; (told.ends, told.endless.is_some()), (2, true));
+    assert_eq!(rt; told.worlds, 98);
+    assert_eq!(rt; told.turns, 193);
 }
 
-#[test]
-fn an_end_has_the_states_and_turns_that_lead_there(rt: HostRuntime) -> Result<(), Fail> {
-    let mut search = Search::new(rt.alloc(), world(rt.alloc())?, Vec::new(rt.alloc()), 1_000)?;
-    for _ in 0..2 {
-        let Next::End(end) = search.next_end() else {
-            return Err(Fail::from("there are two ends"));
+/// The end that comes behind so many others.
+fn next_end(search: &mut Search, behind: usize) -> Option<End> {
+    for _ in 0..behind {
+        let Next::End(_) = search.next_end() else {
+            return None;
         };
-        let mut world = world(rt.alloc())?;
-        for pid in &end.turns {
-            assert!(rt; step(&mut world, *pid));
-        }
-        assert_eq!(rt; end.states.len(), 3);
-        for (pid, state) in &end.states {
-            assert!(rt; matches!(state, ProcState::Ended(_)));
-            assert_eq!(rt; code_of(*state), code_of(world.state_of(*pid)));
-        }
     }
-    Ok(())
-}
-
-/// The code with which it ended.
-fn code_of(state: ProcState) -> Option<i32> {
-    match state {
-        ProcState::Ended(code) => Some(code),
+    match search.next_end() {
+        Next::End(end) => Some(end),
         _ => None,
     }
 }
 
-#[test]
-fn a_search_is_cut_at_one_world_more(rt: HostRuntime) -> Result<(), Fail> {
-    let mut all = Search::new(rt.alloc(), world(rt.alloc())?, Vec::new(rt.alloc()), 98)?;
-    assert_eq!(rt; ends_of(&mut all), (2, true));
-    let mut cut = Search::new(rt.alloc(), world(rt.alloc())?, Vec::new(rt.alloc()), 97)?;
-    let (_, is_all) = ends_of(&mut cut);
-    assert!(rt; !is_all);
-    assert_eq!(rt; cut.worlds(), 97);
-    Ok(())
+/// The end that a search tells behind so many others.
+fn end(alloc: Global, behind: usize) -> Option<End> {
+    let mut search = search_of(alloc, &[], 1_000)?;
+    next_end(&mut search, behind)
 }
 
 /// Does a step of the process.
@@ -168,69 +263,143 @@ fn step(world: &mut World, pid: Pid) -> bool {
     }
 }
 
+/// Does a step of each of these, in their order.
+fn go(world: &mut World, pids: &[Pid]) -> bool {
+    for pid in pids {
+        if !step(world, *pid) {
+            return false;
+        }
+    }
+    true
+}
+
+/// The code with which it ended.
+fn code_of(state: ProcState) -> Option<i32> {
+    match state {
+        ProcState::Ended(code) => Some(code),
+        _ => None,
+    }
+}
+
+/// The code with which the process ended behind a step of each of these.
+fn code_behind(world: &mut World, turns: &[Pid], pid: Pid) -> Option<i32> {
+    if go(world, turns) {
+        code_of(world.state_of(pid))
+    } else {
+        None
+    }
+}
+
+/// The same of the world from its beginning.
+fn code_by(alloc: Global, turns: &[Pid], pid: Pid) -> Option<i32> {
+    let mut world = world(alloc)?;
+    code_behind(&mut world, turns, pid)
+}
+
 #[test]
-fn a_copy_goes_on_alike_and_apart(rt: HostRuntime) -> Result<(), Fail> {
-    let mut world = world(rt.alloc())?;
-    assert!(rt; step(&mut world, 4));
-    let mut copy = world.copy()?;
-    assert!(rt; copy.is_same(&world));
-    for pid in [5, 4, 4, 6] {
-        assert!(rt; step(&mut copy, pid));
-        assert!(rt; !copy.is_same(&world));
+fn an_end_has_the_states_and_turns_that_lead_there(rt: HostRuntime) {
+    for behind in 0..2 {
+        let end = end(rt.alloc(), behind).expect(&rt, "there are two ends");
+        assert_eq!(rt; end.states.len(), 3);
+        for (pid, state) in &end.states {
+            assert!(rt; matches!(state, ProcState::Ended(_)));
+            assert_eq!(rt; code_of(*state), code_by(rt.alloc(), &end.turns, *pid));
+        }
     }
-    for pid in [5, 4, 4, 6] {
-        assert!(rt; step(&mut world, pid));
-    }
-    assert!(rt; copy.is_same(&world));
-    Ok(())
-}
-
-/// The pattern with these words.
-fn pattern(alloc: Global, words: &str) -> Result<Bad, Fail> {
-    match read_bad(alloc, words)? {
-        Some(bad) => Ok(bad),
-        None => Err(Fail::from("the words are no pattern")),
-    }
-}
-
-/// A search for what no order may have.
-fn search_for(alloc: Global, words: &[&str]) -> Result<Search, Fail> {
-    let mut bad = Vec::new(alloc);
-    for one in words {
-        bad.push(pattern(alloc, one)?)?;
-    }
-    Ok(Search::new(alloc, world(alloc)?, bad, 1_000)?)
 }
 
 #[test]
-fn an_item_is_found_at_its_turn(rt: HostRuntime) -> Result<(), Fail> {
-    let mut search = search_for(rt.alloc(), &["9 * *", "4 event_create OK"])?;
-    let last = match search.next_end() {
+fn a_search_is_cut_at_one_world_more(rt: HostRuntime) {
+    let all = told_by(rt.alloc(), &[], 98).expect(&rt, "the search begins");
+    assert_eq!(rt; (all.ends, all.endless.is_some()), (2, true));
+    let cut = told_by(rt.alloc(), &[], 97).expect(&rt, "the search begins");
+    assert!(rt; cut.endless.is_none());
+    assert_eq!(rt; cut.worlds, 97);
+}
+
+/// Does a step of each of these in the copy, in their order. Answers whether it is another world behind
+/// each.
+fn goes_apart(world: &World, copy: &mut World, pids: &[Pid]) -> bool {
+    for pid in pids {
+        if !step(copy, *pid) || copy.is_same(world) {
+            return false;
+        }
+    }
+    true
+}
+
+/// Whether the copy is the same as the world, another behind each of these steps of its own, and the same
+/// again once the world did them too.
+fn goes_alike(world: &mut World, copy: &mut World, pids: &[Pid]) -> [bool; 4] {
+    let is_same = copy.is_same(world);
+    let is_apart = goes_apart(world, copy, pids);
+    let goes = go(world, pids);
+    let is_same_again = copy.is_same(world);
+    [is_same, is_apart, goes, is_same_again]
+}
+
+/// The same of a copy behind a step of the process 4.
+fn copy_goes_alike(world: &mut World, pids: &[Pid]) -> Option<[bool; 4]> {
+    if !step(world, 4) {
+        return None;
+    }
+    let mut copy = world.copy().ok()?;
+    Some(goes_alike(world, &mut copy, pids))
+}
+
+/// The same of the world from its beginning.
+fn copied(alloc: Global, pids: &[Pid]) -> Option<[bool; 4]> {
+    let mut world = world(alloc)?;
+    copy_goes_alike(&mut world, pids)
+}
+
+#[test]
+fn a_copy_goes_on_alike_and_apart(rt: HostRuntime) {
+    let found = copied(rt.alloc(), &[5, 4, 4, 6]);
+    assert_eq!(rt; found, Some([true, true, true, true]));
+}
+
+/// Whose turn it is at which the search comes to an item that may not be.
+fn next_bad(search: &mut Search) -> Option<Pid> {
+    match search.next_end() {
         Next::Bad(turn) => turn.turns.last().copied(),
         _ => None,
-    };
-    assert_eq!(rt; last, Some(4));
-    Ok(())
+    }
+}
+
+/// The same of a search for what no order may have.
+fn bad_turn(alloc: Global, bad: &[&str]) -> Option<Pid> {
+    let mut search = search_of(alloc, bad, 1_000)?;
+    next_bad(&mut search)
 }
 
 #[test]
-fn what_no_order_has_changes_nothing(rt: HostRuntime) -> Result<(), Fail> {
-    let mut search = search_for(
-        rt.alloc(),
-        &["5 close *", "* * BAD_HANDLE", "* stuck", "4 ended 4"],
-    )?;
-    assert_eq!(rt; ends_of(&mut search), (2, true));
-    assert_eq!(rt; search.worlds(), 98);
-    assert_eq!(rt; search.turns(), 193);
-    Ok(())
+fn an_item_is_found_at_its_turn(rt: HostRuntime) {
+    let found = bad_turn(rt.alloc(), &["9 * *", "4 event_create OK"]);
+    assert_eq!(rt; found, Some(4));
 }
 
 #[test]
-fn an_end_is_named_by_what_a_process_is_in(rt: HostRuntime) -> Result<(), Fail> {
-    let mut bad = Vec::new(rt.alloc());
-    bad.push(pattern(rt.alloc(), "* blocked")?)?;
-    bad.push(pattern(rt.alloc(), "6 ended -3")?)?;
-    bad.push(pattern(rt.alloc(), "7 created")?)?;
+fn what_no_order_has_changes_nothing(rt: HostRuntime) {
+    let bad = ["5 close *", "* * BAD_HANDLE", "* stuck", "4 ended 4"];
+    let told = told_by(rt.alloc(), &bad, 1_000).expect(&rt, "the search begins");
+    assert_eq!(rt; (told.ends, told.endless.is_some()), (2, true));
+    assert_eq!(rt; told.worlds, 98);
+    assert_eq!(rt; told.turns, 193);
+}
+
+#[test]
+fn a_search_says_whether_one_goes_on_for_ever(rt: HostRuntime) {
+    let told = told_by(rt.alloc(), &[], 1_000).expect(&rt, "the search begins");
+    assert_eq!(rt; (told.ends, told.endless), (2, Some(false)));
+}
+
+#[test]
+fn an_end_is_named_by_what_a_process_is_in(rt: HostRuntime) {
+    let bad = patterns(rt.alloc(), &["* blocked", "6 ended -3", "7 created"]).expect(
+        &rt,
+        "these are patterns",
+    );
     let ended = ProcState::Ended(-3);
     assert!(rt; named_end(&bad, &[(4, ProcState::Gone), (5, ended)]).is_none());
     assert!(rt; named_end(&bad, &[(4, ProcState::Created), (5, ProcState::Blocked)]).is_some());
@@ -238,64 +407,27 @@ fn an_end_is_named_by_what_a_process_is_in(rt: HostRuntime) -> Result<(), Fail> 
     assert!(rt; named_end(&bad, &[(6, ProcState::Ended(3))]).is_none());
     assert!(rt; named_end(&bad, &[(7, ProcState::Created)]).is_some());
     assert!(rt; named_end(&bad, &[]).is_none());
-    Ok(())
+}
+
+/// Whether the pattern with these words spells them again.
+fn is_spelled_again(alloc: Global, words: &str) -> Option<bool> {
+    let bad = pattern(alloc, words)?;
+    let mut spelled = String::new(alloc);
+    bad.push_words(&mut spelled).ok()?;
+    Some(spelled.as_bytes() == words.as_bytes())
+}
+
+/// Whether there is no pattern with these words.
+fn is_no_pattern(alloc: Global, words: &str) -> bool {
+    matches!(read_bad(alloc, words), Ok(None))
 }
 
 #[test]
-fn patterns_have_one_spelling(rt: HostRuntime) -> Result<(), Fail> {
-    for words in [
-        "* blocked",
-        "7 created",
-        "18446744073709551615 stuck",
-        "6 ended -2147483648",
-        "* ended 0",
-        "6 chan_write PEER_CLOSED",
-        "* * *",
-        "* * blocked",
-        "4 port_wait *",
-        "4 process_exit ended 7",
-    ] {
-        let mut spelled = String::new(rt.alloc());
-        pattern(rt.alloc(), words)?.push_words(&mut spelled)?;
-        assert!(rt; spelled.as_bytes() == words.as_bytes());
+fn patterns_have_one_spelling(rt: HostRuntime) {
+    for words in SPELLED {
+        assert_eq!(rt; is_spelled_again(rt.alloc(), words), Some(true));
     }
-    for words in [
-        "",
-        "*",
-        "6",
-        "* ready",
-        "* blocked ",
-        " * blocked",
-        "*  blocked",
-        "06 blocked",
-        "+6 blocked",
-        "-1 blocked",
-        "18446744073709551616 stuck",
-        "6 ended",
-        "6 ended 2147483648",
-        "6 ended +1",
-        "6 ended 0x1",
-        "6 ended *",
-        "6 chan_write",
-        "6 chan_writ PEER_CLOSED",
-        "6 chan_write PEERCLOSED",
-        "6 chan_write ended",
-        "6 chan_write blocked 1",
-        "6 chan_write OK OK",
-        "6 process_exit ended 1 2",
-        "any blocked",
-    ] {
-        assert!(rt; read_bad(rt.alloc(), words)?.is_none());
+    for words in NOT_SPELLED {
+        assert!(rt; is_no_pattern(rt.alloc(), words));
     }
-    Ok(())
-}
-
-#[test]
-fn a_search_says_whether_one_goes_on_for_ever(rt: HostRuntime) -> Result<(), Fail> {
-    let mut search = Search::new(rt.alloc(), world(rt.alloc())?, Vec::new(rt.alloc()), 1_000)?;
-    for _ in 0..2 {
-        assert!(rt; matches!(search.next_end(), Next::End(_)));
-    }
-    assert!(rt; matches!(search.next_end(), Next::All { endless: false }));
-    Ok(())
 }

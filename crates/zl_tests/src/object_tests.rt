@@ -2,13 +2,18 @@
 
 use bitflags::Flags;
 use std::alloc::{AllocError, Global};
-use std::test::Fail;
 use zl_channel::{Handles, Message};
 use zl_objects::{Body, Life, Objects, Pair, Wait};
 use zl_rights::{Entry, Kind, Koid, Rights, Signals};
 use zl_signals::Watch;
 
 const LENGTH: u64 = 30_000;
+
+/// The objects of a new world. They are in a box, since what has many parts takes long to prove where it
+/// is lent or let go of.
+pub fn new_objects(alloc: Global) -> Result<Box<Objects>, AllocError> {
+    Ok(Box::new(alloc, Objects::new(alloc)?)?)
+}
 
 /// Both ends of a new channel, each with one handle.
 fn new_channel(objects: &mut Objects) -> Result<(Koid, Koid), AllocError> {
@@ -37,8 +42,8 @@ fn send(alloc: Global, objects: &mut Objects, end: Koid, named: Koid) -> Result<
 }
 
 #[test]
-fn a_chain_of_ends_goes_whole(rt: HostRuntime) -> Result<(), Fail> {
-    let mut objects = Objects::new(rt.alloc())?;
+fn a_chain_of_ends_goes_whole(rt: HostRuntime) -> Result<(), AllocError> {
+    let mut objects = new_objects(rt.alloc())?;
     let mut before = Objects::ROOT_JOB;
     for _ in 0..LENGTH {
         let (first, second) = new_channel(&mut objects)?;
@@ -57,8 +62,8 @@ fn a_chain_of_ends_goes_whole(rt: HostRuntime) -> Result<(), Fail> {
 }
 
 #[test]
-fn an_end_in_its_own_queue_stays(rt: HostRuntime) -> Result<(), Fail> {
-    let mut objects = Objects::new(rt.alloc())?;
+fn an_end_in_its_own_queue_stays(rt: HostRuntime) -> Result<(), AllocError> {
+    let mut objects = new_objects(rt.alloc())?;
     let (first, second) = new_channel(&mut objects)?;
     assert_eq!(rt; (first, second), (2, 3));
     assert!(rt; objects.hold(second));
@@ -76,8 +81,8 @@ fn an_end_in_its_own_queue_stays(rt: HostRuntime) -> Result<(), Fail> {
 }
 
 #[test]
-fn a_job_goes_with_its_last_process(rt: HostRuntime) -> Result<(), Fail> {
-    let mut objects = Objects::new(rt.alloc())?;
+fn a_job_goes_with_its_last_process(rt: HostRuntime) -> Result<(), AllocError> {
+    let mut objects = new_objects(rt.alloc())?;
     let process = Body::Process {
         job: Objects::ROOT_JOB,
         life: Life::Running,
@@ -132,8 +137,8 @@ fn key(taken: Option<Watch>) -> Option<u64> {
 }
 
 #[test]
-fn only_the_waits_that_are_named_end(rt: HostRuntime) -> Result<(), Fail> {
-    let mut objects = Objects::new(rt.alloc())?;
+fn only_the_waits_that_are_named_end(rt: HostRuntime) -> Result<(), AllocError> {
+    let mut objects = new_objects(rt.alloc())?;
     let port = new_port(&mut objects)?;
     for n in 0..4 {
         watch(
@@ -168,8 +173,10 @@ fn are_listed(objects: &Objects, keys: &[u64]) -> bool {
 }
 
 #[test]
-fn all_waits_are_listed_in_the_order_of_their_registration(rt: HostRuntime) -> Result<(), Fail> {
-    let mut objects = Objects::new(rt.alloc())?;
+fn all_waits_are_listed_in_the_order_of_their_registration(
+    rt: HostRuntime,
+) -> Result<(), AllocError> {
+    let mut objects = new_objects(rt.alloc())?;
     let (first, second) = new_channel(&mut objects)?;
     let port = new_port(&mut objects)?;
     let other = new_port(&mut objects)?;
@@ -199,8 +206,8 @@ fn all_waits_are_listed_in_the_order_of_their_registration(rt: HostRuntime) -> R
 
 /// The last handle to a port goes with the end in whose queue it stands, and so do their waits.
 #[test]
-fn waits_end_with_a_port_in_a_queue(rt: HostRuntime) -> Result<(), Fail> {
-    let mut objects = Objects::new(rt.alloc())?;
+fn waits_end_with_a_port_in_a_queue(rt: HostRuntime) -> Result<(), AllocError> {
+    let mut objects = new_objects(rt.alloc())?;
     let (first, second) = new_channel(&mut objects)?;
     let port = new_port(&mut objects)?;
     let other = new_port(&mut objects)?;
@@ -241,8 +248,8 @@ fn new_process(objects: &mut Objects, job: Koid) -> Result<Koid, AllocError> {
 }
 
 #[test]
-fn jobs_go_with_the_last_of_what_lives_in_them(rt: HostRuntime) -> Result<(), Fail> {
-    let mut objects = Objects::new(rt.alloc())?;
+fn jobs_go_with_the_last_of_what_lives_in_them(rt: HostRuntime) -> Result<(), AllocError> {
+    let mut objects = new_objects(rt.alloc())?;
     let first = new_job(&mut objects, Objects::ROOT_JOB)?;
     let second = new_job(&mut objects, first)?;
     let pid = new_process(&mut objects, second)?;
@@ -260,8 +267,8 @@ fn jobs_go_with_the_last_of_what_lives_in_them(rt: HostRuntime) -> Result<(), Fa
 }
 
 #[test]
-fn a_process_that_was_started_needs_no_handle(rt: HostRuntime) -> Result<(), Fail> {
-    let mut objects = Objects::new(rt.alloc())?;
+fn a_process_that_was_started_needs_no_handle(rt: HostRuntime) -> Result<(), AllocError> {
+    let mut objects = new_objects(rt.alloc())?;
     let job = new_job(&mut objects, Objects::ROOT_JOB)?;
     let pid = new_process(&mut objects, job)?;
     objects.start(pid);
@@ -279,8 +286,8 @@ fn a_process_that_was_started_needs_no_handle(rt: HostRuntime) -> Result<(), Fai
 }
 
 #[test]
-fn a_job_has_what_stands_below_it(rt: HostRuntime) -> Result<(), Fail> {
-    let mut objects = Objects::new(rt.alloc())?;
+fn a_job_has_what_stands_below_it(rt: HostRuntime) -> Result<(), AllocError> {
+    let mut objects = new_objects(rt.alloc())?;
     let first = new_job(&mut objects, Objects::ROOT_JOB)?;
     let second = new_job(&mut objects, first)?;
     let beside = new_job(&mut objects, Objects::ROOT_JOB)?;
@@ -301,8 +308,8 @@ fn kill(objects: &mut Objects, task: Koid) {
 }
 
 #[test]
-fn a_job_is_listed_with_what_stands_below_it(rt: HostRuntime) -> Result<(), Fail> {
-    let mut objects = Objects::new(rt.alloc())?;
+fn a_job_is_listed_with_what_stands_below_it(rt: HostRuntime) -> Result<(), AllocError> {
+    let mut objects = new_objects(rt.alloc())?;
     let first = new_job(&mut objects, Objects::ROOT_JOB)?;
     let other = new_process(&mut objects, Objects::ROOT_JOB)?;
     let second = new_job(&mut objects, first)?;
@@ -318,8 +325,8 @@ fn a_job_is_listed_with_what_stands_below_it(rt: HostRuntime) -> Result<(), Fail
 }
 
 #[test]
-fn what_a_kill_leaves_without_a_handle_goes(rt: HostRuntime) -> Result<(), Fail> {
-    let mut objects = Objects::new(rt.alloc())?;
+fn what_a_kill_leaves_without_a_handle_goes(rt: HostRuntime) -> Result<(), AllocError> {
+    let mut objects = new_objects(rt.alloc())?;
     let first = new_job(&mut objects, Objects::ROOT_JOB)?;
     let second = new_job(&mut objects, first)?;
     let pid = new_process(&mut objects, second)?;

@@ -4,9 +4,9 @@ ghost use Rattle.std.specs.Prelude.{◌≡◌, true, false};
 ghost use Rattle.std.specs.List.{All};
 ghost use Rattle.zl_objects.specs.Calm.{is_due};
 
+use crate::object_tests::new_objects;
 use bitflags::Flags;
 use std::alloc::AllocError;
-use std::test::Fail;
 use zl_objects::{Awaited, Body, Life, Objects, Pair, Wait};
 use zl_rights::{Koid, Pid, Signals};
 
@@ -99,8 +99,8 @@ fn look(objects: &mut Objects) -> bool {
 }
 
 #[test]
-fn objects_at_which_nothing_waits_stay_quiet(rt: HostRuntime) -> Result<(), Fail> {
-    let mut objects = Objects::new(rt.alloc())?;
+fn objects_at_which_nothing_waits_stay_quiet(rt: HostRuntime) -> Result<(), AllocError> {
+    let mut objects = new_objects(rt.alloc())?;
     assert!(rt; objects.is_quiet());
     let event = new_event(&mut objects)?;
     signal(&mut objects, event);
@@ -113,8 +113,8 @@ fn objects_at_which_nothing_waits_stay_quiet(rt: HostRuntime) -> Result<(), Fail
 #[test]
 fn an_object_at_which_a_process_is_blocked_is_looked_at_once_it_changes(
     rt: HostRuntime,
-) -> Result<(), Fail> {
-    let mut objects = Objects::new(rt.alloc())?;
+) -> Result<(), AllocError> {
+    let mut objects = new_objects(rt.alloc())?;
     let (event, other) = (new_event(&mut objects)?, new_event(&mut objects)?);
     let mask = u64::from(Signals::SIGNALED.bits());
     objects.sleep(7, Awaited::SignalOf { koid: event, mask });
@@ -126,8 +126,8 @@ fn an_object_at_which_a_process_is_blocked_is_looked_at_once_it_changes(
 }
 
 #[test]
-fn a_process_that_blocks_on_what_is_there_is_looked_at(rt: HostRuntime) -> Result<(), Fail> {
-    let mut objects = Objects::new(rt.alloc())?;
+fn a_process_that_blocks_on_what_is_there_is_looked_at(rt: HostRuntime) -> Result<(), AllocError> {
+    let mut objects = new_objects(rt.alloc())?;
     let event = new_event(&mut objects)?;
     signal(&mut objects, event);
     let mask = u64::from(Signals::SIGNALED.bits());
@@ -137,8 +137,8 @@ fn a_process_that_blocks_on_what_is_there_is_looked_at(rt: HostRuntime) -> Resul
 }
 
 #[test]
-fn an_object_is_looked_at_as_a_wait_is_registered(rt: HostRuntime) -> Result<(), Fail> {
-    let mut objects = Objects::new(rt.alloc())?;
+fn an_object_is_looked_at_as_a_wait_is_registered(rt: HostRuntime) -> Result<(), AllocError> {
+    let mut objects = new_objects(rt.alloc())?;
     let (event, port) = (new_event(&mut objects)?, new_port(&mut objects)?);
     assert!(rt; objects.is_quiet());
     watch(&mut objects, event, port)?;
@@ -147,8 +147,8 @@ fn an_object_is_looked_at_as_a_wait_is_registered(rt: HostRuntime) -> Result<(),
 }
 
 #[test]
-fn where_an_object_goes_others_stay_quiet(rt: HostRuntime) -> Result<(), Fail> {
-    let mut objects = Objects::new(rt.alloc())?;
+fn where_an_object_goes_others_stay_quiet(rt: HostRuntime) -> Result<(), AllocError> {
+    let mut objects = new_objects(rt.alloc())?;
     let (event, other) = (new_event(&mut objects)?, new_event(&mut objects)?);
     let port = new_port(&mut objects)?;
     watch(&mut objects, event, port)?;
@@ -160,8 +160,8 @@ fn where_an_object_goes_others_stay_quiet(rt: HostRuntime) -> Result<(), Fail> {
 }
 
 #[test]
-fn where_an_end_goes_its_peer_is_looked_at(rt: HostRuntime) -> Result<(), Fail> {
-    let mut objects = Objects::new(rt.alloc())?;
+fn where_an_end_goes_its_peer_is_looked_at(rt: HostRuntime) -> Result<(), AllocError> {
+    let mut objects = new_objects(rt.alloc())?;
     let ((end, peer), port) = (new_pair(&mut objects)?, new_port(&mut objects)?);
     watch(&mut objects, peer, port)?;
     assert!(rt; look(&mut objects));
@@ -175,8 +175,8 @@ fn where_an_end_goes_its_peer_is_looked_at(rt: HostRuntime) -> Result<(), Fail> 
 #[test]
 fn where_an_end_goes_at_whose_peer_nothing_waits_all_stay_quiet(
     rt: HostRuntime,
-) -> Result<(), Fail> {
-    let mut objects = Objects::new(rt.alloc())?;
+) -> Result<(), AllocError> {
+    let mut objects = new_objects(rt.alloc())?;
     let (end, _) = new_pair(&mut objects)?;
     objects.release(end);
     assert!(rt; objects.kind_of(end).is_none() && objects.is_quiet());
@@ -184,8 +184,8 @@ fn where_an_end_goes_at_whose_peer_nothing_waits_all_stay_quiet(
 }
 
 #[test]
-fn where_a_process_goes_its_job_is_looked_at(rt: HostRuntime) -> Result<(), Fail> {
-    let mut objects = Objects::new(rt.alloc())?;
+fn where_a_process_goes_its_job_is_looked_at(rt: HostRuntime) -> Result<(), AllocError> {
+    let mut objects = new_objects(rt.alloc())?;
     let (process, port) = (new_process(&mut objects)?, new_port(&mut objects)?);
     watch(&mut objects, Objects::ROOT_JOB, port)?;
     assert!(rt; look(&mut objects));
@@ -195,8 +195,8 @@ fn where_a_process_goes_its_job_is_looked_at(rt: HostRuntime) -> Result<(), Fail
 }
 
 #[test]
-fn where_a_process_ends_others_stay_quiet(rt: HostRuntime) -> Result<(), Fail> {
-    let mut objects = Objects::new(rt.alloc())?;
+fn where_a_process_ends_others_stay_quiet(rt: HostRuntime) -> Result<(), AllocError> {
+    let mut objects = new_objects(rt.alloc())?;
     let (event, process) = (new_event(&mut objects)?, new_process(&mut objects)?);
     let port = new_port(&mut objects)?;
     watch(&mut objects, event, port)?;
@@ -207,8 +207,8 @@ fn where_a_process_ends_others_stay_quiet(rt: HostRuntime) -> Result<(), Fail> {
 }
 
 #[test]
-fn a_process_that_ends_is_looked_at(rt: HostRuntime) -> Result<(), Fail> {
-    let mut objects = Objects::new(rt.alloc())?;
+fn a_process_that_ends_is_looked_at(rt: HostRuntime) -> Result<(), AllocError> {
+    let mut objects = new_objects(rt.alloc())?;
     let (process, port) = (new_process(&mut objects)?, new_port(&mut objects)?);
     watch(&mut objects, process, port)?;
     assert!(rt; look(&mut objects));
@@ -218,8 +218,8 @@ fn a_process_that_ends_is_looked_at(rt: HostRuntime) -> Result<(), Fail> {
 }
 
 #[test]
-fn where_a_process_ends_its_job_is_looked_at(rt: HostRuntime) -> Result<(), Fail> {
-    let mut objects = Objects::new(rt.alloc())?;
+fn where_a_process_ends_its_job_is_looked_at(rt: HostRuntime) -> Result<(), AllocError> {
+    let mut objects = new_objects(rt.alloc())?;
     let (process, port) = (new_process(&mut objects)?, new_port(&mut objects)?);
     watch(&mut objects, Objects::ROOT_JOB, port)?;
     assert!(rt; look(&mut objects));
@@ -236,8 +236,8 @@ fn kill(objects: &mut Objects, process: Koid) {
 }
 
 #[test]
-fn where_a_process_is_killed_others_stay_quiet(rt: HostRuntime) -> Result<(), Fail> {
-    let mut objects = Objects::new(rt.alloc())?;
+fn where_a_process_is_killed_others_stay_quiet(rt: HostRuntime) -> Result<(), AllocError> {
+    let mut objects = new_objects(rt.alloc())?;
     let (event, process) = (new_event(&mut objects)?, new_process(&mut objects)?);
     let port = new_port(&mut objects)?;
     watch(&mut objects, event, port)?;
@@ -248,8 +248,8 @@ fn where_a_process_is_killed_others_stay_quiet(rt: HostRuntime) -> Result<(), Fa
 }
 
 #[test]
-fn where_a_process_is_killed_its_job_is_looked_at(rt: HostRuntime) -> Result<(), Fail> {
-    let mut objects = Objects::new(rt.alloc())?;
+fn where_a_process_is_killed_its_job_is_looked_at(rt: HostRuntime) -> Result<(), AllocError> {
+    let mut objects = new_objects(rt.alloc())?;
     let (process, port) = (new_process(&mut objects)?, new_port(&mut objects)?);
     watch(&mut objects, Objects::ROOT_JOB, port)?;
     assert!(rt; look(&mut objects));
@@ -261,8 +261,8 @@ fn where_a_process_is_killed_its_job_is_looked_at(rt: HostRuntime) -> Result<(),
 #[test]
 fn with_more_blocked_processes_than_have_room_all_is_looked_at(
     rt: HostRuntime,
-) -> Result<(), Fail> {
-    let mut objects = Objects::new(rt.alloc())?;
+) -> Result<(), AllocError> {
+    let mut objects = new_objects(rt.alloc())?;
     let event = new_event(&mut objects)?;
     for pid in 2..66 {
         objects.sleep(pid, Awaited::PacketAt(event));
@@ -274,8 +274,10 @@ fn with_more_blocked_processes_than_have_room_all_is_looked_at(
 }
 
 #[test]
-fn each_process_that_was_made_has_room_among_the_blocked(rt: HostRuntime) -> Result<(), Fail> {
-    let mut objects = Objects::new(rt.alloc())?;
+fn each_process_that_was_made_has_room_among_the_blocked(
+    rt: HostRuntime,
+) -> Result<(), AllocError> {
+    let mut objects = new_objects(rt.alloc())?;
     let event = new_event(&mut objects)?;
     for _ in 0..70 {
         let pid = new_process(&mut objects)?;
@@ -288,8 +290,8 @@ fn each_process_that_was_made_has_room_among_the_blocked(rt: HostRuntime) -> Res
 #[test]
 fn an_object_with_a_wait_that_doesnt_hold_is_quiet_once_it_was_looked_at(
     rt: HostRuntime,
-) -> Result<(), Fail> {
-    let mut objects = Objects::new(rt.alloc())?;
+) -> Result<(), AllocError> {
+    let mut objects = new_objects(rt.alloc())?;
     let (event, port) = (new_event(&mut objects)?, new_port(&mut objects)?);
     watch(&mut objects, event, port)?;
     assert!(rt; look(&mut objects));
@@ -304,8 +306,10 @@ fn an_object_with_a_wait_that_doesnt_hold_is_quiet_once_it_was_looked_at(
 }
 
 #[test]
-fn who_still_waits_is_known_once_its_object_was_looked_at(rt: HostRuntime) -> Result<(), Fail> {
-    let mut objects = Objects::new(rt.alloc())?;
+fn who_still_waits_is_known_once_its_object_was_looked_at(
+    rt: HostRuntime,
+) -> Result<(), AllocError> {
+    let mut objects = new_objects(rt.alloc())?;
     let event = new_event(&mut objects)?;
     let mask = u64::from(Signals::SIGNALED.bits());
     objects.sleep(7, Awaited::SignalOf { koid: event, mask });
@@ -327,8 +331,10 @@ fn block_all(objects: &mut Objects, first: u64, koid: Koid) {
 }
 
 #[test]
-fn there_is_room_for_others_once_it_was_looked_at_who_waited(rt: HostRuntime) -> Result<(), Fail> {
-    let mut objects = Objects::new(rt.alloc())?;
+fn there_is_room_for_others_once_it_was_looked_at_who_waited(
+    rt: HostRuntime,
+) -> Result<(), AllocError> {
+    let mut objects = new_objects(rt.alloc())?;
     let (event, other) = (new_event(&mut objects)?, new_event(&mut objects)?);
     block_all(&mut objects, 2, event);
     assert!(rt; objects.is_quiet());
@@ -358,8 +364,10 @@ fn next(objects: &mut Objects) -> Option<Pid> {
 }
 
 #[test]
-fn who_may_wake_is_told_by_the_objects_that_were_touched(rt: HostRuntime) -> Result<(), Fail> {
-    let mut objects = Objects::new(rt.alloc())?;
+fn who_may_wake_is_told_by_the_objects_that_were_touched(
+    rt: HostRuntime,
+) -> Result<(), AllocError> {
+    let mut objects = new_objects(rt.alloc())?;
     let (event, other) = (new_event(&mut objects)?, new_event(&mut objects)?);
     block(&mut objects, 7, event);
     block(&mut objects, 8, other);
@@ -376,8 +384,8 @@ fn who_may_wake_is_told_by_the_objects_that_were_touched(rt: HostRuntime) -> Res
 #[test]
 fn those_at_one_object_come_in_the_order_in_which_they_blocked(
     rt: HostRuntime,
-) -> Result<(), Fail> {
-    let mut objects = Objects::new(rt.alloc())?;
+) -> Result<(), AllocError> {
+    let mut objects = new_objects(rt.alloc())?;
     let (event, other) = (new_event(&mut objects)?, new_event(&mut objects)?);
     block(&mut objects, 9, other);
     block(&mut objects, 8, event);
@@ -395,8 +403,10 @@ fn those_at_one_object_come_in_the_order_in_which_they_blocked(
 }
 
 #[test]
-fn those_at_two_touched_objects_come_one_object_after_another(rt: HostRuntime) -> Result<(), Fail> {
-    let mut objects = Objects::new(rt.alloc())?;
+fn those_at_two_touched_objects_come_one_object_after_another(
+    rt: HostRuntime,
+) -> Result<(), AllocError> {
+    let mut objects = new_objects(rt.alloc())?;
     let (event, port) = (new_event(&mut objects)?, new_port(&mut objects)?);
     block_at_port(&mut objects, 9, port);
     block(&mut objects, 8, event);
@@ -413,8 +423,8 @@ fn those_at_two_touched_objects_come_one_object_after_another(rt: HostRuntime) -
 }
 
 #[test]
-fn where_there_is_no_room_nobody_is_listed(rt: HostRuntime) -> Result<(), Fail> {
-    let mut objects = Objects::new(rt.alloc())?;
+fn where_there_is_no_room_nobody_is_listed(rt: HostRuntime) -> Result<(), AllocError> {
+    let mut objects = new_objects(rt.alloc())?;
     let (event, other) = (new_event(&mut objects)?, new_event(&mut objects)?);
     block_all(&mut objects, 2, event);
     assert!(rt; !objects.is_crowded());

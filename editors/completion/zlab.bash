@@ -13,7 +13,7 @@ _zlab() {
         case "${COMP_WORDS[at]}" in
             *[\<\>]*) at=$((at + 1)) ;;
             --) only_files=yes ;;
-            --workers | --limit | --burst | --worlds | --bad)
+            --workers | --limit | --burst | --worlds | --bad | --part | --from)
                 # Bash makes a word of `=` too.
                 [ "${COMP_WORDS[at + 1]}" = "=" ] && at=$((at + 1))
                 at=$((at + 1)) ;;
@@ -24,14 +24,14 @@ _zlab() {
     case "${COMP_WORDS[COMP_CWORD - 1]}" in
         *\>*) _zlab_files '' "$word"; return ;;
         *\<*) _zlab_files .zls "$word"; return ;;
-        --workers | --limit | --burst | --worlds | --bad | =) return ;;
+        --workers | --limit | --burst | --worlds | --bad | --part | --from | =) return ;;
     esac
     if [[ $word = -* ]] && [ -z "$only_files" ]; then
         case "$command" in
             '') mapfile -t COMPREPLY < <(compgen -W '-h --help -V --version' -- "$word") ;;
             asm | check | step | replay) mapfile -t COMPREPLY < <(compgen -W '-h --help --' -- "$word") ;;
             run) mapfile -t COMPREPLY < <(compgen -W '-h --help --workers --limit --burst --' -- "$word") ;;
-            explore) mapfile -t COMPREPLY < <(compgen -W '-h --help --worlds --bad --' -- "$word") ;;
+            explore) mapfile -t COMPREPLY < <(compgen -W '-h --help --worlds --bad --part --from --' -- "$word") ;;
         esac
         return
     fi

@@ -3,7 +3,7 @@ use Rattle.zl_command.proofs.Common.{AnswersError, App, Bool, Err, ErrorKind, Gi
 use Rattle.zl_command.proofs.Common.{IsShown, List, MayAskForHelp, MayHaveNumber, None, Ok, Option, Result, Shape, Some, Text, [], ap, built, bytes_eq, codes}
 use Rattle.zl_command.proofs.Common.{commands, cond, entered, false, fault_of, filled, inl, inr, is_simple_and_free, is_some, map, names_of, needed, not}
 use Rattle.zl_command.proofs.Common.{numbered, optional, option_map, option_map_or, refl, repeated, rows_at, slice_get, subcommand_of, subst, sym, true}
-use Rattle.zl_command.proofs.Common.{true≢false, unwrap_or, with_index, ℕ, ◌&&◌, ◌||◌, ◌∙◌, ◌∷◌, ◌≡◌, ◌≢◌, ◌⊎◌}
+use Rattle.zl_command.proofs.Common.{single, true≢false, unwrap_or, with_index, ℕ, ◌&&◌, ◌||◌, ◌∙◌, ◌∷◌, ◌≡◌, ◌≢◌, ◌⊎◌}
 use Rattle.std.proofs.lemmas.Slice.Eq.{bytes_eq-Decides}
 use Rattle.std.specs.Borrow.{Bor}
 use Rattle.clap.specs.Walk.{Held, Row, Rule, nothing_held, rows_after, stop_after, used}
@@ -17,7 +17,7 @@ use Rattle.zl_command.specs.declared.command.WordFault.TheVariants.{NoMemory, Us
 use Rattle.clap.specs.Faults.{check_fault, entered_fault, level_fault, other_fault}
 use Rattle.zl_command.proofs.WalkKeeps.{Each, KeepsRows, level_fits}
 use Rattle.zl_command.proofs.ValueRows.{IsFilled, IsNumberRow, given_first, given_number, may_have_number, needed_keeps, number_keeps, option_keeps}
-use Rattle.zl_command.proofs.ValueRows.{other_keeps, other_more_keeps, repeated_keeps}
+use Rattle.zl_command.proofs.ValueRows.{other_keeps, other_more_keeps, repeated_keeps, single_keeps}
 
 -- ---- the subcommand's level
 
@@ -121,8 +121,17 @@ run_burst =
     let burst = number_keeps rules again (codes "burst") 1 1000000 2 false in
     (scenario, (workers, (limit, (burst, ((λ values rows e each. each), tt)))))
 
+abbrev worlds_rule : Rule
+worlds_rule = with_index 2 (filled (optional (numbered (codes "worlds") 1 1000000000)))
+
 abbrev bad_rule : Rule
 bad_rule = with_index 2 (filled (repeated (codes "bad")))
+
+abbrev part_rule : Rule
+part_rule = with_index 2 (filled (single (codes "part")))
+
+abbrev from_rule : Rule
+from_rule = with_index 2 (filled (optional (numbered (codes "from") 0 1000)))
 
 -- each argument of `explore` keeps the fact of rows
 abbrev ExploreKeeps : (Row → Type 0) → Type 0
@@ -134,7 +143,9 @@ explore_filled =
     let again = explore_shape.args_override_self in
     let worlds = option_keeps rules again (codes "worlds") 1 1000000000 2 false in
     let bad = repeated_keeps rules again (codes "bad") 2 in
-    (needed_keeps rules again (codes "SCENARIO") 1, (worlds, (bad, ((λ values rows e filled_rows. filled_rows), tt))))
+    let part = single_keeps rules again (codes "part") 2 in
+    let from = option_keeps rules again (codes "from") 0 1000 2 false in
+    (needed_keeps rules again (codes "SCENARIO") 1, (worlds, (bad, (part, (from, ((λ values rows e filled_rows. filled_rows), tt))))))
 
 explore_worlds : ExploreKeeps (IsNumberRow (codes "worlds") 1 1000000000)
 explore_worlds =
@@ -143,7 +154,20 @@ explore_worlds =
     let scenario = other_keeps rules again (codes "worlds") 1 1000000000 scenario_rule refl refl refl in
     let worlds = number_keeps rules again (codes "worlds") 1 1000000000 2 false in
     let bad = other_more_keeps rules again (codes "worlds") 1 1000000000 bad_rule refl refl refl in
-    (scenario, (worlds, (bad, ((λ values rows e each. each), tt))))
+    let part = other_keeps rules again (codes "worlds") 1 1000000000 part_rule refl refl refl in
+    let from = other_keeps rules again (codes "worlds") 1 1000000000 from_rule refl refl refl in
+    (scenario, (worlds, (bad, (part, (from, ((λ values rows e each. each), tt))))))
+
+explore_from : ExploreKeeps (IsNumberRow (codes "from") 0 1000)
+explore_from =
+    let rules = explore_shape.rules in
+    let again = explore_shape.args_override_self in
+    let scenario = other_keeps rules again (codes "from") 0 1000 scenario_rule refl refl refl in
+    let worlds = other_keeps rules again (codes "from") 0 1000 worlds_rule refl refl refl in
+    let bad = other_more_keeps rules again (codes "from") 0 1000 bad_rule refl refl refl in
+    let part = other_keeps rules again (codes "from") 0 1000 part_rule refl refl refl in
+    let from = number_keeps rules again (codes "from") 0 1000 2 false in
+    (scenario, (worlds, (bad, (part, (from, ((λ values rows e each. each), tt))))))
 
 both_given : (a b : Bool) → check_kinds false false (not a || (not b || false)) ≡ [] → (a ≡ true) × (b ≡ true)
 both_given true true e = (refl, refl)
@@ -204,15 +228,24 @@ run_values words e =
     let burst = run_fits (IsNumberRow (codes "burst") 1 1000000) run_burst words e in
     (given_first (codes "SCENARIO") _ filled_rows.0 given.0, workers_is, limit_is, may_have_number (codes "burst") 1 1000000 _ burst.0)
 
+-- what a level of `explore` with no fault has of a fact of rows
+explore_fits : (R : Row → Type 0) → ExploreKeeps R → (words : List Text) → level_fault explore_shape [] nothing_held words false [] ≡ []
+    → Each R (rows_after explore_shape.rules [] words) × (check_fault explore_shape (rows_after explore_shape.rules [] words) false ≡ [])
+explore_fits R each words e =
+    let end = level_fits explore_shape [] R each (λ _. Unit {0}) (λ name word h none. tt) words false
+    [] (refl, (refl, (refl, (refl, (refl, (refl, tt)))))) e in
+    (end.0, end.3)
+
 explore_values : (words : List Text) → level_fault explore_shape [] nothing_held words false [] ≡ []
     → HasValue (rows_after explore_shape.rules [] words) (codes "SCENARIO")
     × MayHaveNumber (rows_after explore_shape.rules [] words) (codes "worlds") 1 1000000000
+    × MayHaveNumber (rows_after explore_shape.rules [] words) (codes "from") 0 1000
 explore_values words e =
-    let end = level_fits explore_shape [] IsFilled explore_filled (λ _. Unit {0}) (λ name word h none. tt) words false
-    [] (refl, (refl, (refl, (refl, tt)))) e in
-    let numbers = level_fits explore_shape [] (IsNumberRow (codes "worlds") 1 1000000000) explore_worlds (λ _. Unit {0}) (λ name word h none. tt) words false
-    [] (refl, (refl, (refl, (refl, tt)))) e in
-    (given_first (codes "SCENARIO") _ end.0 (one_given _ end.3), may_have_number (codes "worlds") 1 1000000000 _ numbers.0)
+    let filled_rows = explore_fits IsFilled explore_filled words e in
+    let worlds = explore_fits (IsNumberRow (codes "worlds") 1 1000000000) explore_worlds words e in
+    let from = explore_fits (IsNumberRow (codes "from") 0 1000) explore_from words e in
+    let scenario_is = given_first (codes "SCENARIO") _ filled_rows.0 (one_given _ filled_rows.1) in
+    (scenario_is, may_have_number (codes "worlds") 1 1000000000 _ worlds.0, may_have_number (codes "from") 0 1000 _ from.0)
 
 -- ---- the program's level
 
@@ -279,7 +312,7 @@ entered_values (Some p) named e =
         inr (inr (inr (inr (inl (refl, values.0, values.1, values.2, values.3)))))
     go false false false false false true is_help none e =
         let values = explore_values p.1 e in
-        inr (inr (inr (inr (inr (refl, values.0, values.1)))))
+        inr (inr (inr (inr (inr (refl, values.0, values.1, values.2)))))
     go false false false false false false true none e = absurd (true≢false none)
     go false false false false false false false none e = tt
 

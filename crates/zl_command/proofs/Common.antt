@@ -12,4 +12,4 @@ pub use Rattle.std.specs.Str.{bytes_eq}
 pub use Rattle.std.specs.Str.Parse.{ExplainsUnsignedError, HasUnsignedDigitsIfOk, ParsesUnsigned}
 pub use Rattle.zl_command.specs.Words.{AnswersError, AsksFor, GivesText, HasNumber, HasValue, HasValues, IfTask, IfText, IsShown, MayAskForHelp}
 pub use Rattle.zl_command.specs.Words.{MayHaveNumber, are_accepted, assembling, bad_of, checking, commands, exploring, is_within, needed, number, number_of}
-pub use Rattle.zl_command.specs.Words.{numbered, optional, program, repeated, replaying, running, stepping}
+pub use Rattle.zl_command.specs.Words.{numbered, optional, program, repeated, replaying, running, single, stepping}

@@ -53,6 +53,18 @@ with_worlds worlds = codes "explore" ∷ codes "a" ∷ codes "--worlds" ∷ worl
 abbrev SearchesBy : List Text → Option ℕ → Type 0
 SearchesBy words worlds = (takes commands words ≡ true) × (orders words ≡ Some (codes "explore", Some (codes "a"), worlds))
 
+abbrev with_turns : Text → List Text
+with_turns turns = codes "explore" ∷ codes "a" ∷ codes "--from" ∷ turns ∷ []
+
+-- the text of `--part` of a search, and how many turns tell it, if these are said
+abbrev shares : List Text → Option (Option Text × Option ℕ)
+shares words = option_map (λ found. (first_of (codes "part") found.1, number_of (codes "from") found.1)) (subcommand_of commands words)
+
+-- the words are accepted, for a search over the scenario `a`, of this part that so many turns tell, if these are said
+abbrev SearchesIn : List Text → Option Text → Option ℕ → Type 0
+SearchesIn words part from =
+    (are_accepted words ≡ true) × (orders words ≡ Some (codes "explore", Some (codes "a"), None)) × (shares words ≡ Some (part, from))
+
 abbrev with_both : Text → Text → List Text
 with_both workers limit = codes "run" ∷ codes "a" ∷ codes "--workers" ∷ workers ∷ codes "--limit" ∷ limit ∷ []
 
@@ -335,3 +347,57 @@ patterns_alone = refl
 patterns_of_a_run : fault_of commands (with_both (codes "4") (codes "1000") ++ (codes "--bad" ∷ codes "* blocked" ∷ [])) ≡ kind.UnknownArgument ∷ []
 unfolding clap_on_literals
 patterns_of_a_run = refl
+
+no_part : SearchesIn (codes "explore" ∷ codes "a" ∷ []) None None
+unfolding clap_on_literals
+no_part = (refl, refl, refl)
+
+a_part : SearchesIn (codes "explore" ∷ codes "a" ∷ codes "--part" ∷ codes "2/4" ∷ []) (Some (codes "2/4")) None
+unfolding clap_on_literals
+a_part = (refl, refl, refl)
+
+a_part_of_so_many_turns : SearchesIn (codes "explore" ∷ codes "--from=+03" ∷ codes "a" ∷ codes "--part=2/4" ∷ []) (Some (codes "2/4")) (Some 3)
+unfolding clap_on_literals
+a_part_of_so_many_turns = (refl, refl, refl)
+
+whatever_a_part_says : SearchesIn (codes "explore" ∷ codes "a" ∷ codes "--part=" ∷ []) (Some []) None
+    × SearchesIn (codes "explore" ∷ codes "a" ∷ codes "--part" ∷ codes "x" ∷ []) (Some (codes "x")) None
+unfolding clap_on_literals
+whatever_a_part_says = ((refl, refl, refl), (refl, refl, refl))
+
+the_fewest_turns : SearchesIn (with_turns (codes "0")) None (Some 0)
+unfolding clap_on_literals
+the_fewest_turns = (refl, refl, refl)
+
+the_most_turns : SearchesIn (with_turns (codes "1000")) None (Some 1000)
+unfolding clap_on_literals
+the_most_turns = (refl, refl, refl)
+
+no_such_turns : (fault_of commands (with_turns (codes "1001")) ≡ kind.ValueValidation ∷ [])
+    × (fault_of commands (with_turns (codes "18446744073709551616")) ≡ kind.ValueValidation ∷ [])
+    × (fault_of commands (with_turns (codes "x")) ≡ kind.ValueValidation ∷ [])
+    × (fault_of commands (with_turns []) ≡ kind.ValueValidation ∷ [])
+unfolding clap_on_literals
+no_such_turns = (refl, refl, refl, refl)
+
+turns_without_a_number : fault_of commands (codes "explore" ∷ codes "a" ∷ codes "--from" ∷ []) ≡ kind.InvalidValue ∷ []
+unfolding clap_on_literals
+turns_without_a_number = refl
+
+turns_twice : fault_of commands (with_turns (codes "3") ++ (codes "--from=3" ∷ [])) ≡ kind.ArgumentConflict ∷ []
+unfolding clap_on_literals
+turns_twice = refl
+
+a_part_twice : fault_of commands (codes "explore" ∷ codes "a" ∷ codes "--part=1/2" ∷ codes "--part" ∷ codes "1/2" ∷ []) ≡ kind.ArgumentConflict ∷ []
+unfolding clap_on_literals
+a_part_twice = refl
+
+a_part_without_words : (fault_of commands (codes "explore" ∷ codes "a" ∷ codes "--part" ∷ []) ≡ kind.InvalidValue ∷ [])
+    × (fault_of commands (codes "explore" ∷ codes "a" ∷ codes "--part" ∷ codes "--from=3" ∷ []) ≡ kind.InvalidValue ∷ [])
+unfolding clap_on_literals
+a_part_without_words = (refl, refl)
+
+a_part_of_a_run : (fault_of commands (with_both (codes "4") (codes "1000") ++ (codes "--part" ∷ codes "1/2" ∷ [])) ≡ kind.UnknownArgument ∷ [])
+    × (fault_of commands (with_both (codes "4") (codes "1000") ++ (codes "--from" ∷ codes "3" ∷ [])) ≡ kind.UnknownArgument ∷ [])
+unfolding clap_on_literals
+a_part_of_a_run = (refl, refl)

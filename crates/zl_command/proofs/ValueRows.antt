@@ -2,7 +2,7 @@
 use Rattle.zl_command.proofs.Common.{Bool, Err, ErrorKind, HasNumber, HasValue, IsSome, List, MayHaveNumber, None, Ok, Option, ParsesUnsigned, Result, Some}
 use Rattle.zl_command.proofs.Common.{Text, [], ap, arith, bytes_eq, cond, false, filled, find, inl, inr, is_some, needed, number, number_of, numbered}
 use Rattle.zl_command.proofs.Common.{option_and_then, option_map, option_map_or, refl, slice_get, subst, sym, true, true≢false, unwrap_or, with_index, ℕ}
-use Rattle.zl_command.proofs.Common.{repeated, ◌++◌, ◌∙◌, ◌∷◌, ◌≡◌, ◌⊎◌}
+use Rattle.zl_command.proofs.Common.{repeated, single, ◌++◌, ◌∙◌, ◌∷◌, ◌≡◌, ◌⊎◌}
 use Rattle.std.proofs.Common.{◌≤◌, ◌<◌, ◌^◌, leb-true, ltb-true}
 use Rattle.std.specs.Prelude.{IsSomeAnd, nat_lt}
 use Rattle.std.specs.List.{list_all}
@@ -104,6 +104,9 @@ pub repeated_keeps : (rules : List Rule) (again : Bool) (name : Text) (place : �
     → KeepsRows rules again IsFilled (with_index place (filled (repeated name)))
 repeated_keeps rules again name place =
     more_keeps IsFilled filled_grows rules again (with_index place (filled (repeated name))) refl refl (λ v vs e. tt)
+
+pub single_keeps : (rules : List Rule) (again : Bool) (name : Text) (place : ℕ) → KeepsRows rules again IsFilled (with_index place (filled (single name)))
+single_keeps rules again name place = use_keeps IsFilled filled_grows rules again (with_index place (filled (single name))) refl refl (λ v vs e. tt)
 
 -- what was given has a value
 pub given_first : (name : Text) (rows : List Row) → Each IsFilled rows → is_given name rows ≡ true → HasValue rows name

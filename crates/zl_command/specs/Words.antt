@@ -1,6 +1,6 @@
 -- The command line: the command set as `clap` defines one, and what its words ask for.
 use Rattle.std.specs.Prelude.{◌≡◌, ◌≢◌, ◌≤◌, ◌⊎◌, ◌&&◌, Bool, true, false, codes, Option, Some, None, IsSome, IsSomeAnd, option_and_then, unwrap_or, ℕ, List}
-use Rattle.std.specs.Prelude.{[], ◌∷◌, Result, Ok, Err, fold, if◌then◌else◌, length, map, nat_le}
+use Rattle.std.specs.Prelude.{[], ◌∷◌, Result, Ok, Err, fold, if◌then◌else◌, length, map, nat_le, option_map}
 use Rattle.std.specs.Str.Parse.{digits_value, without_leading_plus}
 use Rattle.clap.specs.ValueTests.{is_numeral}
 use Rattle.clap.specs.Words.{App, IsAmong, Kinds, Row, Rule, Text, all_of, first_of, new_app, new_rule, one_of, subcommand_of, takes, with_rule}
@@ -40,6 +40,10 @@ repeated word = record (new_rule word) {
   action = Some Append;
 }
 
+-- an option that may stand once, and takes a word
+abbrev pub single : Text → Rule
+single word = record (new_rule word) { long = Some word; value_names = 1 }
+
 -- a command of this name, whose words must all be there
 abbrev pub command_of : Text → List Text → App
 command_of name words = fold (λ made word. with_rule made (needed word)) (new_app name) words
@@ -72,10 +76,11 @@ abbrev pub running : App
 running = fold with_rule (command_of (codes "run") (codes "SCENARIO" ∷ []))
     (numbered (codes "workers") 1 64 ∷ numbered (codes "limit") 0 1000000 ∷ optional (numbered (codes "burst") 1 1000000) ∷ [])
 
--- explore SCENARIO [--worlds N] [--bad WORDS]..
+-- explore SCENARIO [--worlds N] [--bad WORDS].. [--part K/N] [--from D]
 abbrev pub exploring : App
 exploring = fold with_rule (command_of (codes "explore") (codes "SCENARIO" ∷ []))
-    (optional (numbered (codes "worlds") 1 1000000000) ∷ repeated (codes "bad") ∷ [])
+    (optional (numbered (codes "worlds") 1 1000000000) ∷ repeated (codes "bad") ∷ single (codes "part")
+    ∷ optional (numbered (codes "from") 0 1000) ∷ [])
 
 -- the command set: no words, or those of one of the commands
 abbrev pub commands : App
@@ -124,7 +129,8 @@ HasItsValues name rows =
     ⊎ (((name ≡ codes "replay") × HasValue rows (codes "SCENARIO") × HasValue rows (codes "TRACE"))
     ⊎ (((name ≡ codes "run") × HasValue rows (codes "SCENARIO") × HasNumber rows (codes "workers") 1 64
     × HasNumber rows (codes "limit") 0 1000000 × MayHaveNumber rows (codes "burst") 1 1000000)
-    ⊎ ((name ≡ codes "explore") × HasValue rows (codes "SCENARIO") × MayHaveNumber rows (codes "worlds") 1 1000000000)))))
+    ⊎ ((name ≡ codes "explore") × HasValue rows (codes "SCENARIO") × MayHaveNumber rows (codes "worlds") 1 1000000000
+    × MayHaveNumber rows (codes "from") 0 1000)))))
 
 -- clap finds no subcommand, or one of the command set with its values
 abbrev pub HasValues : Option (Text × List Row) → Type 0
@@ -150,10 +156,12 @@ AsksFor (Some found) (Run scenario workers limit burst) = (found.0 ≡ codes "ru
     × (number_of (codes "workers") found.1 ≡ Some workers) × (1 ≤ workers) × (workers ≤ 64)
     × (number_of (codes "limit") found.1 ≡ Some limit) × (limit ≤ 1000000)
     × (burst ≡ unwrap_or (number_of (codes "burst") found.1) 256) × (1 ≤ burst) × (burst ≤ 1000000)
-AsksFor (Some found) (Explore scenario worlds bad) = (found.0 ≡ codes "explore")
+AsksFor (Some found) (Explore scenario worlds bad part from) = (found.0 ≡ codes "explore")
     × (first_of (codes "SCENARIO") found.1 ≡ Some scenario.now)
     × (worlds ≡ unwrap_or (number_of (codes "worlds") found.1) 1000000) × (1 ≤ worlds) × (worlds ≤ 1000000000)
     × (map (λ words. words.now) bad.items ≡ bad_of found.1) × (length bad.items ≤ 16)
+    × (option_map (λ text. text.now) part ≡ first_of (codes "part") found.1)
+    × (from ≡ unwrap_or (number_of (codes "from") found.1) 6) × (from ≤ 1000)
 AsksFor _ _ = ⊥
 
 -- of an answer that is a task, the task has the fact

@@ -1,9 +1,9 @@
 //! The command line, read with `clap`: what its words ask for, and its help.
-ghost use Rattle.std.specs.Prelude.{◌≡◌, ◌≢◌, ◌≤◌, ◌<◌, ◌⊎◌, Some, IfOk, IfErr, map, codes, false, length, unwrap_or, [], ◌∷◌};
+ghost use Rattle.std.specs.Prelude.{◌≡◌, ◌≢◌, ◌≤◌, ◌<◌, ◌⊎◌, Some, IfOk, IfErr, map, codes, false, length, option_map, unwrap_or, [], ◌∷◌};
 ghost use Rattle.clap.specs.Words.{app_of, fault_of, first_of, found_of, kind_of, rows_of, rule_of, subcommand_of, subcommand_rows_of};
 ghost use Rattle.zl_command.specs.Words.{AnswersError, AsksFor, GivesText, HasItsValues, HasNumber, HasValue, HasValues, IfTask, IfText, MayAskForHelp, MayHaveNumber};
 ghost use Rattle.zl_command.specs.Words.{are_accepted, assembling, bad_of, checking, commands, exploring, is_within, needed, number_of, numbered, repeated, replaying};
-ghost use Rattle.zl_command.specs.Words.{running, stepping};
+ghost use Rattle.zl_command.specs.Words.{running, single, stepping};
 ghost use Rattle.zl_command.specs.declared.command.WordFault.TheVariants.{NoMemory, Usage};
 
 mod texts;
@@ -70,8 +70,9 @@ pub enum Task<'a> {
         /// How many local instructions a burst has at most, 1 to 1,000,000; 256 without the option.
         burst: u32,
     },
-    /// `explore SCENARIO [--worlds N] [--bad WORDS]..`: all turns of a scenario are taken in each order,
-    /// and each end that is met is written, up to the first thing that no order may have.
+    /// `explore SCENARIO [--worlds N] [--bad WORDS].. [--part K/N] [--from D]`: all turns of a scenario are
+    /// taken in each order, or in those of one part, and each end that is met is written, up to the first
+    /// thing that no order may have.
     Explore {
         /// The path of the scenario.
         scenario: &'a str,
@@ -79,6 +80,10 @@ pub enum Task<'a> {
         worlds: u32,
         /// The words of each `--bad`, in the order in which they stand; 16 at most.
         bad: Vec<&'a str>,
+        /// The text of `--part`, whatever it says; `None` without the option.
+        part: Option<&'a str>,
+        /// How many turns of an order tell its part, 0 to 1,000; 6 without the option.
+        from: u32,
     },
 }
 
@@ -187,17 +192,31 @@ fn task_of_command<'a>(
             burst: burst(values),
         }
     } else if name == "explore" {
-        Task::Explore {
-            scenario: value(values, "SCENARIO"),
-            worlds: worlds(values),
-            bad: bad(alloc, values)?,
-        }
+        search_of(alloc, values)?
     } else {
         Task::Check {
             image: value(values, "IMAGE"),
         }
     };
     Ok(task)
+}
+
+/// The task that the values of `explore` stand for.
+fn search_of<'a>(alloc: Global, values: &ArgMatches<'a>) -> Result<Task<'a>, WordFault>
+    requires scenario { HasValue (rows_of (found_of values.now)) (codes "SCENARIO") }
+    requires worlds { MayHaveNumber (rows_of (found_of values.now)) (codes "worlds") 1 1000000000 }
+    requires from { MayHaveNumber (rows_of (found_of values.now)) (codes "from") 0 1000 }
+    ensures task { IfOk result (AsksFor (Some (codes "explore", rows_of (found_of values.now)))) }
+    ensures usage { IfErr result (λ fault. fault ≡ Usage
+        → is_within (Some (codes "explore", rows_of (found_of values.now))) ≡ false) }
+{
+    Ok(Task::Explore {
+        scenario: value(values, "SCENARIO"),
+        worlds: worlds(values),
+        bad: bad(alloc, values)?,
+        part: part(values),
+        from: from(values),
+    })
 }
 
 /// A value that the subcommand can't be without.
@@ -259,6 +278,24 @@ fn bad<'a>(alloc: Global, matches: &ArgMatches<'a>) -> Result<Vec<&'a str>, Word
         return Err(WordFault::Usage);
     }
     Ok(found.to_vec(alloc)?)
+}
+
+/// The text of `--part`, if the words have one.
+fn part<'a>(matches: &ArgMatches<'a>) -> Option<&'a str>
+    ensures { option_map (λ text. text.now) result
+        ≡ first_of (codes "part") (rows_of (found_of matches.now)) }
+{
+    matches.get_str("part")
+}
+
+/// How many turns tell the part of an order, which are 6 where the words have no number.
+fn from<'a>(matches: &ArgMatches<'a>) -> u32
+    requires { MayHaveNumber (rows_of (found_of matches.now)) (codes "from") 0 1000 }
+    ensures value { result
+        ≡ unwrap_or (number_of (codes "from") (rows_of (found_of matches.now))) 6 }
+    ensures within { result ≤ 1000 }
+{
+    matches.get_one("from").unwrap_or(6)
 }
 
 /// The command set, with what the help says of it.
@@ -332,11 +369,14 @@ fn exploring<'a>(alloc: Global) -> Result<Command<'a>, AllocError>
     ensures { IfOk result (λ made. app_of made ≡ exploring) }
 {
     let worlds = numbered(alloc, "worlds", "N", texts::WORLDS, 1, 1_000_000_000);
+    let from = numbered(alloc, "from", "D", texts::FROM, 0, 1000);
     Command::new(alloc, "explore")
         .about("Takes the turns of the scenario in the file SCENARIO in each order, for its ends")
         .arg(needed(alloc, "SCENARIO", "The file of the scenario"))?
         .arg(worlds.required(false))?
-        .arg(repeated(alloc, "bad", "WORDS", texts::BAD))
+        .arg(repeated(alloc, "bad", "WORDS", texts::BAD))?
+        .arg(single(alloc, "part", "K/N", texts::PART))?
+        .arg(from.required(false))
 }
 
 /// An option that may stand several times, and each time takes a word.
@@ -349,6 +389,17 @@ fn repeated<'a>(alloc: Global, name: &'a str, letter: &'a str, help: &'a str) ->
         .long(name)
         .value_name(letter)
         .action(ArgAction::Append)
+}
+
+/// An option that may stand once, and takes a word.
+fn single<'a>(alloc: Global, name: &'a str, letter: &'a str, help: &'a str) -> Arg<'a>
+    ensures rule { rule_of result ≡ single name.entry.now }
+    ensures local { result.global ≡ false }
+{
+    Arg::new(alloc, name)
+        .help(help)
+        .long(name)
+        .value_name(letter)
 }
 
 /// An option that must be there, whose value is a number from the one to the other.

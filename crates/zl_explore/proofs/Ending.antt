@@ -23,7 +23,7 @@ module _ {S : Type 0} (ready : S → List ℕ) (next : S → ℕ → S) where
   ends_by s p is_in ends = record { turns = p ∷ ends.turns; is_path = (is_in, ends.is_path); nobody = ends.nobody }
 
   -- one turn more at the end
-  path_more : (turns : List ℕ) (s e : S) (p : ℕ) → IsPath ready next s turns → after ready next s turns ≡ e → IsIn (ready e) p
+  pub path_more : (turns : List ℕ) (s e : S) (p : ℕ) → IsPath ready next s turns → after ready next s turns ≡ e → IsIn (ready e) p
       → IsPath ready next s (turns ++ (p ∷ [])) × (after ready next s (turns ++ (p ∷ [])) ≡ next e p)
   unfolding IsPath after
   path_more [] s e p path leads is_in =

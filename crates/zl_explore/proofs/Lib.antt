@@ -11,6 +11,8 @@ pub mod Taking
 pub mod Ending
 pub mod Reduced
 pub mod Endless
+pub mod Parts
+pub mod PartLaw
 pub mod Beside
 pub mod BesideCalls
 pub mod BesideSteps
@@ -30,4 +32,5 @@ pub mod OwnOrders
 pub mod Advanced
 pub mod GoingAhead
 pub mod Bursts
+pub mod Whole
 pub mod Keeping

@@ -1,6 +1,6 @@
 -- The states of a list of slots, as one more comes or one is let go of.
 use Rattle.std.proofs.Common.{Box, Global, IfSome, List, None, Option, Some, [], ap, append-nil, arith, get_or, length, map, refl, slice_get, slice_set}
-use Rattle.std.proofs.Common.{suc, subst, sym, zero, ℕ, ◌++◌, ◌+◌, ◌<◌, ◌∙◌, ◌∷◌, ◌≡◌}
+use Rattle.std.proofs.Common.{suc, subst, sym, zero, ℕ, ◌++◌, ◌<◌, ◌∙◌, ◌∷◌, ◌≡◌}
 use Rattle.std.specs.Option.{option_map}
 use Rattle.std.specs.Prelude.{◌⊎◌}
 use Rattle.std.proofs.lemmas.List.{append_assoc, length-map, map-append}

@@ -5,7 +5,7 @@ use mathlib.Core.Logic.{inl, inr}
 use Rattle.zl_explore.specs.Paths.{EndsAt, IsIn, IsPath, IsReached, after}
 use Rattle.zl_explore.specs.Reduced.{Ahead, ArePrivate, IsReduced, IsSteady, here, turn}
 
-in_none : (xs : List ℕ) (p : ℕ) → xs ≡ [] → IsIn xs p → ⊥
+pub in_none : (xs : List ℕ) (p : ℕ) → xs ≡ [] → IsIn xs p → ⊥
 in_none xs p e is_in = none-some p (subst (λ (x : List ℕ). slice_get x is_in.0 ≡ Some p) e is_in.1)
 
 module _ {S : Type 0} (ready : S → List ℕ) (next : S → ℕ → S) where

@@ -1,5 +1,5 @@
 -- One turn from the state at a place: what it leads to, and what is told of it.
-use Rattle.std.proofs.Common.{IfSome, List, Option, Some, [], get_or, length, refl, slice_get, subst, sym, ℕ, ◌++◌, ◌+◌, ◌<◌, ◌∙◌, ◌∷◌, ◌≡◌}
+use Rattle.std.proofs.Common.{IfSome, List, Option, Some, [], get_or, length, refl, slice_get, subst, ℕ, ◌++◌, ◌+◌, ◌<◌, ◌∙◌, ◌∷◌, ◌≡◌}
 use Rattle.std.proofs.lemmas.Option.{slice_get-get_or}
 use Rattle.zl_code.specs.declared.history.TraceItem.{TraceItem}
 use Rattle.zl_explore.specs.Bad.{IsQuiet, NamesItem}

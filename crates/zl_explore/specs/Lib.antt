@@ -4,6 +4,8 @@ pub mod Orders
 pub mod Running
 pub mod Paths
 pub mod Bad
+pub mod Part
+pub mod Parts
 pub mod Nodes
 pub mod Met
 pub mod Quiet
@@ -14,5 +16,6 @@ pub mod GoesAhead
 pub mod Private
 pub mod GoingAhead
 pub mod Searching
+pub mod AllParts
 pub mod Telling
 pub mod Kept

@@ -1,15 +1,18 @@
 -- What is told of all orders of turns of a running world.
-use Rattle.std.specs.Prelude.{ℕ, ◌≡◌, List, [], ◌∷◌, ◌++◌, Some}
+use Rattle.std.specs.Prelude.{ℕ, ◌≡◌, Bool, false, List, [], ◌∷◌, ◌++◌, Some}
 use Rattle.zl_code.specs.declared.history.ProcState.{ProcState}
 use Rattle.zl_code.specs.declared.history.TraceItem.{TraceItem}
 use Rattle.zl_code.specs.Image.{Library}
 use Rattle.zl_code.specs.Own.{OwnWorld}
 use Rattle.zl_code.specs.OwnSteps.{own_step}
-use Rattle.zl_calls.specs.World.{Machine}
+use Rattle.zl_calls.specs.World.{Machine, own_here}
 use Rattle.zl_explore.specs.Bad.{Fits}
+use Rattle.zl_explore.specs.GoingAhead.{reduced, start_of}
 use Rattle.zl_explore.specs.Orders.{OwnTurns, ready_in, told_in}
+use Rattle.zl_explore.specs.Part.{Part}
+use Rattle.zl_explore.specs.Parts.{AllComeOn, AreAllOf, HasNoneOf}
 use Rattle.zl_explore.specs.Paths.{IsIn}
-use Rattle.zl_explore.specs.Running.{rested_machine}
+use Rattle.zl_explore.specs.Running.{ready_of, rested_machine, told_at}
 use Rattle.zl_explore.specs.declared.bad.Bad.{Bad}
 
 -- what each process is in, by koid
@@ -57,12 +60,22 @@ pub record IsEndless (lib : Library) (o : OwnWorld) : Type 0 where
   pub leads : OwnTurns lib o turns last
   pub never : CanEnd lib last → ⊥
 
--- a search: what counts of the world that it began with, the states of the ends that it told, what no order may have, how many worlds there
--- may be, how many it met, and how many it may still go on from
+-- what is known of the orders of a part from the machine on, each turn up to the next call
+pub record IsKnown (m : Machine) (part : Part) (ends : List States) (bad : List Bad) (endless : Bool) : Type 0 where
+  -- those that come to an end come to one of these
+  pub all : AreAllOf ready_of reduced (start_of (rested_machine m)) part (λ u. told_in (own_here u)) ends
+  -- none has an item that a pattern names
+  pub none : HasNoneOf ready_of reduced (start_of (rested_machine m)) part told_at bad
+  -- and where none goes on for ever, each comes to an end or out of the part
+  pub come : endless ≡ false → AllComeOn ready_of reduced (start_of (rested_machine m)) part
+
+-- a search: what counts of the world that it began with, the states of the ends that it told, what no order may have, of which part the orders
+-- are, how many worlds there may be, how many it met, and how many it may still go on from
 pub record Search : Type 0 where
   pub root : Machine
   pub told : List States
   pub bad : List Bad
+  pub part : Part
   pub most : ℕ
   pub worlds : ℕ
   pub left : ℕ

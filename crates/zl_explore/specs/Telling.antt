@@ -1,9 +1,10 @@
 -- What a search tells as it goes on.
 use Rattle.std.specs.Prelude.{ℕ, true, false, ◌≡◌, ◌<◌, ◌≤◌, List, [], ◌∷◌, ◌++◌, Option, Some}
 use Rattle.zl_calls.specs.World.{Machine, own_here}
+use Rattle.zl_explore.specs.Part.{IsOnly}
 use Rattle.zl_explore.specs.Paths.{IsIn}
 use Rattle.zl_explore.specs.Private.{IsStill}
-use Rattle.zl_explore.specs.Searching.{AreAll, BeganWith, HasNone, IsBadOrder, IsEnd, IsEndless, Search, States}
+use Rattle.zl_explore.specs.Searching.{AreAll, BeganWith, HasNone, IsBadOrder, IsEnd, IsEndless, IsKnown, Search, States}
 use Rattle.zl_explore.specs.declared.bad.Bad.{Bad}
 use Rattle.zl_explore.specs.declared.ends.Next.{Next}
 use Rattle.zl_explore.specs.declared.ends.Next.TheVariants as next
@@ -24,25 +25,31 @@ Leads (Some (next.End e)) s = (m : Machine) → IsStill (own_here m) → BeganWi
 Leads (Some (next.Bad b)) s = LeadsToBad s b.turns.items b.bad
 Leads _ s = Unit {0}
 
--- behind an end there are fewer worlds to go on from
+-- behind an end there are fewer worlds to go on from, and so there are where they have doubled
 abbrev pub Lessens : Next → (old new : ℕ) → Type 0
 Lessens (next.End e) old new = new < old
+Lessens next.Doubled old new = new < old
 Lessens _ old new = Unit {0}
 
--- where it told all, every order from the world that it began with comes to one of those, if it comes to an end
+-- where it told all of its part, that is known of the orders of the part from the world that it began with
+abbrev pub TellsPart : Next → Search → Type 0
+TellsPart (next.All endless) s = (m : Machine) → IsStill (own_here m) → BeganWith m s → IsKnown m s.part s.told s.bad endless
+TellsPart _ s = Unit {0}
+
+-- where that is the only part, every order from the world that it began with comes to one of those, if it comes to an end
 abbrev pub TellsAll : Next → Search → Type 0
-TellsAll (next.All endless) s = (m : Machine) → IsStill (own_here m) → BeganWith m s → AreAll m.programs (own_here m) s.told
+TellsAll (next.All endless) s = IsOnly s.part → (m : Machine) → IsStill (own_here m) → BeganWith m s → AreAll m.programs (own_here m) s.told
 TellsAll _ s = Unit {0}
 
 -- and none has an item that a pattern names
 abbrev pub TellsNone : Next → Search → Type 0
-TellsNone (next.All endless) s = (m : Machine) → IsStill (own_here m) → BeganWith m s → HasNone m.programs (own_here m) s.bad
+TellsNone (next.All endless) s = IsOnly s.part → (m : Machine) → IsStill (own_here m) → BeganWith m s → HasNone m.programs (own_here m) s.bad
 TellsNone _ s = Unit {0}
 
--- it says whether own steps lead to a world from which none lead to an end
+-- where it says so, own steps lead to a world from which none lead to an end; and where not, if that is the only part, none do
 abbrev pub TellsEndless : Next → Search → Type 0
 TellsEndless (next.All true) s = (m : Machine) → IsStill (own_here m) → BeganWith m s → IsEndless m.programs (own_here m)
-TellsEndless (next.All false) s = (m : Machine) → IsStill (own_here m) → BeganWith m s → IsEndless m.programs (own_here m) → ⊥
+TellsEndless (next.All false) s = IsOnly s.part → (m : Machine) → IsStill (own_here m) → BeganWith m s → IsEndless m.programs (own_here m) → ⊥
 TellsEndless _ s = Unit {0}
 
 -- it is cut only where as many worlds were met as there may be

@@ -40,6 +40,8 @@ pub enum Next {
         /// Whether an order leads to where none comes to an end any more.
         endless: bool,
     },
+    /// Twice as many worlds were met as when it said so last; it goes on.
+    Doubled,
     /// There would be more worlds than there may be.
     Cut,
     /// Memory was refused, or a call wanted it.

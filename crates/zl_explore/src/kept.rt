@@ -4,18 +4,19 @@ ghost use Rattle.std.specs.Prelude.{◌≡◌, ◌++◌, ◌∷◌, ◌<◌, ◌
 ghost use Rattle.zl_calls.specs.World.{own_here};
 ghost use Rattle.zl_explore.specs.GoingAhead.{Takes, reduced, start_of};
 ghost use Rattle.zl_explore.specs.Private.{IsStill};
-ghost use Rattle.zl_explore.specs.Running.{ready_of, rested_machine, told_at};
-ghost use Rattle.zl_explore.specs.Orders.{told_in};
+ghost use Rattle.zl_explore.specs.Running.{ready_of, rested_machine};
 ghost use Rattle.zl_explore.specs.Paths.{IsIn, after};
-ghost use Rattle.zl_explore.specs.Kept.{Goes, IsBadOrMemory, IsEndAt, IsNoEnd, IsWhole, moved_on, search_of, told_of};
+ghost use Rattle.zl_explore.specs.Kept.{Goes, IsBadOrMemory, IsEndAt, IsEndOf, IsNoEnd, IsWhole, doubling_at, goes_of, moved_on, search_of, tells_of, told_of};
+ghost use Rattle.std.specs.Option.{option_map};
 ghost use Rattle.zl_explore.specs.Quiet.{IsBadTurnAt};
-ghost use Rattle.zl_explore.specs.Telling.{Leads, Lessens, Tells, TellsAll, TellsCut, TellsEndless, TellsNone};
+ghost use Rattle.zl_explore.specs.Telling.{Leads, Lessens, Tells, TellsAll, TellsCut, TellsEndless, TellsNone, TellsPart};
 
 use crate::bad::Bad;
 use crate::edges::endless_place;
 use crate::ends::{BadTurn, End, Next, are_same, digest_of};
 use crate::machine::Machine;
 use crate::met::Met;
+use crate::part::{Part, Parted};
 use crate::places::Places;
 use crate::running::Running;
 use crate::search::{Course, Widened, widen};
@@ -28,18 +29,25 @@ use zl_rights::Pid;
 /// find it as it is.
 const HELD: usize = 1_000;
 
+/// It says first at so many worlds that they have doubled.
+const MANY: usize = 100_000;
+
 /// The worlds that were met, and the ends that were told.
 #[derive(Drop)]
 pub struct Kept {
     pub alloc: Global,
     /// Where it began, before anybody went ahead.
     pub root: Running,
-    pub nodes: Met<Running>,
+    /// Of which part the orders are.
+    pub part: Part,
+    pub nodes: Met<Parted<Running>>,
     pub course: Course,
     /// What no order may have.
     pub bad: Vec<Bad>,
     /// How many worlds there may be.
     pub most: usize,
+    /// At so many worlds it says that they have doubled.
+    pub doubling: usize,
     /// So many of the first worlds were gone on from or, where they are ends, told.
     pub widened: usize,
     /// The states of each end that was told.
@@ -50,23 +58,31 @@ pub struct Kept {
 
 impl Kept {
     /// The world alone.
-    pub fn new(alloc: Global, world: World, bad: Vec<Bad>, most: usize) -> Result<Kept, AllocError>
+    pub fn new(
+        alloc: Global,
+        world: World,
+        bad: Vec<Bad>,
+        part: Part,
+        most: usize,
+    ) -> Result<Kept, AllocError>
         requires { IsStill (own_here world) }
         ensures whole { IfOk result IsWhole }
         ensures root { IfOk result (λ kept. kept.root ≡ rested_machine world) }
         ensures told { IfOk result (λ kept. told_of kept ≡ []) }
         ensures bad { IfOk result (λ kept. kept.bad ≡ bad) }
+        ensures part { IfOk result (λ kept. kept.part ≡ part) }
         ensures most { IfOk result (λ kept. kept.most ≡ most) }
         ensures left { IfOk result (λ kept. (search_of kept).left ≡ most) }
     {
         let root = Running::new(alloc, world);
-        let start = root.copy()?.begin(&mut Vec::new(alloc))?;
+        let start = Parted::new(part, root.copy()?.begin(&mut Vec::new(alloc))?);
         let mut places = Places::new(alloc);
         places.push(start.digest())?;
         let nodes = Met::new(alloc, start)?;
         Ok(Kept {
             alloc,
             root,
+            part,
             nodes,
             course: Course {
                 places,
@@ -75,21 +91,25 @@ impl Kept {
             },
             bad,
             most,
+            doubling: MANY,
             widened: 0,
             told: Vec::new(alloc),
             told_places: Places::new(alloc),
         })
     }
 
-    /// Goes on until there is an end that wasn't told, an item that may not be, or no more to go on from.
+    /// Goes on until there is an end that wasn't told, an item that may not be, twice as many worlds, or no more
+    /// to go on from.
     pub fn next_end(&mut self) -> Next
         requires { IsWhole self.old }
         ensures whole { IsWhole self.new }
         ensures root { self.new.root ≡ self.old.root }
         ensures bad { self.new.bad ≡ self.old.bad }
+        ensures part { self.new.part ≡ self.old.part }
         ensures told { Tells (Some result) (told_of self.old) (told_of self.new) }
         ensures leads { Leads (Some result) (search_of self.old) }
         ensures left { Lessens result (search_of self.old).left (search_of self.new).left }
+        ensures known { TellsPart result (search_of self.new) }
         ensures all { TellsAll result (search_of self.new) }
         ensures none { TellsNone result (search_of self.new) }
         ensures endless { TellsEndless result (search_of self.new) }
@@ -103,11 +123,25 @@ impl Kept {
             if let Some(next) = self.widen_one() {
                 return next;
             }
+            if self.is_doubled() {
+                return Next::Doubled;
+            }
         }
         if self.widened < self.nodes.len() {
             return Next::Cut;
         }
         self.all()
+    }
+
+    /// Whether there are twice as many worlds as when it said so last.
+    fn is_doubled(&mut self) -> bool
+        ensures { self.new ≡ doubling_at self.old self.new.doubling }
+    {
+        if self.nodes.len() < self.doubling {
+            return false;
+        }
+        self.doubling = self.doubling.saturating_mul(2);
+        true
     }
 
     /// Tells that all is known, as it is once all worlds were gone on from.
@@ -116,6 +150,7 @@ impl Kept {
         requires enough { length self.now.nodes.items ≤ self.now.widened }
         ensures end { IsNoEnd result }
         ensures leads { Leads (Some result) (search_of self.now) }
+        ensures known { TellsPart result (search_of self.now) }
         ensures all { TellsAll result (search_of self.now) }
         ensures none { TellsNone result (search_of self.now) }
         ensures endless { TellsEndless result (search_of self.now) }
@@ -164,7 +199,7 @@ impl Kept {
     /// Tells of the turn of the process in the next world, whose item the pattern names.
     fn bad_turn(&self, pid: Pid, bad: Bad) -> Next
         requires whole { IsWhole self.now }
-        requires names { IsBadTurnAt ready_of told_at self.now.bad.items self.now.nodes.items
+        requires names { IsBadTurnAt goes_of tells_of self.now.bad.items self.now.nodes.items
             self.now.widened pid bad }
         ensures which { IsBadOrMemory result }
         ensures leads { Leads (Some result) (search_of self.now) }
@@ -181,15 +216,20 @@ impl Kept {
         }
     }
 
-    /// Tells of the next world, in which nobody is ready, unless an end like it was told.
+    /// Tells of the next world, from which nobody goes on, unless an end like it was told or none of the part
+    /// comes to an end there.
     fn end_here(&mut self) -> Option<Next>
         requires whole { IsWhole self.old }
         requires end { IsEndAt self.old.nodes.items self.old.widened }
         requires room { self.old.widened < self.old.most }
         ensures { Goes self.old result self.new }
     {
-        let Ok(states) = self.states() else {
+        let Ok(found) = self.states() else {
             return Some(Next::Memory);
+        };
+        let Some(states) = found else {
+            self.move_on();
+            return None;
         };
         let digest = digest_of(&states);
         if is_told(&self.told, &self.told_places, &states, digest) {
@@ -220,14 +260,19 @@ impl Kept {
         }
     }
 
-    /// What each process is in, in the next world. Only memory can be refused.
-    fn states(&self) -> Result<Vec<(Pid, ProcState)>, AllocError>
+    /// What each process is in, in the next world. Nothing where no order of the part comes to an end there.
+    /// Only memory can be refused.
+    fn states(&self) -> Result<Option<Vec<(Pid, ProcState)>>, AllocError>
         requires whole { IsWhole self.now }
         requires end { IsEndAt self.now.nodes.items self.now.widened }
-        ensures { IfOk result (λ states. IfSome (slice_get self.now.nodes.items self.now.widened)
-            (λ n. states.items ≡ told_in (own_here n.at))) }
+        ensures { IfOk result (λ found. IfSome (slice_get self.now.nodes.items self.now.widened)
+            (λ n. IsEndOf (option_map (λ states. states.items) found) n.at)) }
     {
-        self.nodes.copy_at(self.widened)?.states()
+        let end = self.nodes.copy_at(self.widened)?;
+        if !end.is_of() {
+            return Ok(None);
+        }
+        Ok(Some(end.at.states()?))
     }
 
     /// These states were told.
@@ -239,6 +284,7 @@ impl Kept {
         ensures widened { self.new.widened ≡ self.old.widened }
         ensures most { self.new.most ≡ self.old.most }
         ensures bad { self.new.bad ≡ self.old.bad }
+        ensures part { self.new.part ≡ self.old.part }
         ensures course { self.new.course ≡ self.old.course }
     {
         let kept = states.to_vec(self.alloc)?;

@@ -12,13 +12,17 @@ mod bad;
 mod edges;
 mod ends;
 mod kept;
+mod laws;
 mod machine;
 mod met;
 mod orders;
+mod part;
 mod places;
 mod running;
 mod search;
 
 pub use bad::{Bad, What, named_end, read_bad};
 pub use ends::{BadTurn, End, Next};
+pub use laws::{parts_come_to_ends, parts_have_all_ends, parts_have_none};
 pub use orders::Search;
+pub use part::{Part, read_part};

@@ -13,7 +13,7 @@ use std::test::*;
 use zl_asm::assemble_bytes;
 use zl_calls::World;
 use zl_code::{Boot, Grant, Grants, ProcState, Statement};
-use zl_explore::{Bad, End, Next, Search, named_end, read_bad};
+use zl_explore::{Bad, End, Next, Part, Search, named_end, read_bad, read_part};
 use zl_interp::{Library, Program};
 use zl_rights::{Koid, Pid};
 
@@ -96,6 +96,26 @@ const NOT_SPELLED: &[&str] = &[
     "any blocked",
 ];
 
+/// None of them is a part.
+const NO_PARTS: [&str; 16] = [
+    "",
+    "1",
+    "/",
+    "1/",
+    "/1",
+    "0/1",
+    "0/0",
+    "2/1",
+    "1/0",
+    "01/2",
+    "1/02",
+    "+1/2",
+    "1/-2",
+    "1/2/3",
+    "1 / 2",
+    "1/4294967296",
+];
+
 /// The programs of the three processes.
 fn library(alloc: Global) -> Option<Library> {
     let mut library = Library::new(alloc);
@@ -176,10 +196,15 @@ fn pattern(alloc: Global, words: &str) -> Option<Bad> {
     read_bad(alloc, words).ok()?
 }
 
-/// A search that meets no more worlds than so many, for what no order may have.
-fn search_of(alloc: Global, bad: &[&str], most: usize) -> Option<Search> {
+/// A search over the orders of the part that meets no more worlds than so many, for what none may have.
+fn search_in(alloc: Global, bad: &[&str], part: Part, most: usize) -> Option<Search> {
     let bad = patterns(alloc, bad)?;
-    Search::new(alloc, world(alloc)?, bad, most).ok()
+    Search::new(alloc, world(alloc)?, bad, part, most).ok()
+}
+
+/// The same over all orders.
+fn search_of(alloc: Global, bad: &[&str], most: usize) -> Option<Search> {
+    search_in(alloc, bad, Part::only(), most)
 }
 
 /// What a search told.
@@ -201,6 +226,7 @@ fn ends_of(search: &mut Search) -> (usize, Option<bool>) {
     for _ in 0..1_000 {
         match search.next_end() {
             Next::End(_) => ends = ends.saturating_add(1),
+            Next::Doubled => {}
             Next::All { endless } => return (ends, Some(endless)),
             Next::Bad(_) | Next::Cut | Next::Memory => return (ends, None),
         }
@@ -223,6 +249,36 @@ fn tell(search: &mut Search) -> Told {
 fn told_by(alloc: Global, bad: &[&str], most: usize) -> Option<Told> {
     let mut search = search_of(alloc, bad, most)?;
     Some(tell(&mut search))
+}
+
+/// What a search over the orders of the part tells, of which one turn tells to which of two they belong.
+fn told_in(alloc: Global, number: u32) -> Option<Told> {
+    let mut search = search_in(alloc, &[], Part::new(number, 2, 1)?, 1_000)?;
+    Some(tell(&mut search))
+}
+
+#[test]
+fn a_part_has_the_ends_of_its_orders(rt: HostRuntime) {
+    // Where 5 goes first, its packet comes first. Where 4 does, which waits then, or 6, there are both ends.
+    let even = told_in(rt.alloc(), 1).expect(&rt, "the search begins");
+    assert_eq!(rt; (even.ends, even.endless), (2, Some(false)));
+    let odd = told_in(rt.alloc(), 2).expect(&rt, "the search begins");
+    assert_eq!(rt; (odd.ends, odd.endless), (1, Some(false)));
+}
+
+/// Whether there is a part with these words.
+fn is_part(alloc: Global, words: &str) -> bool {
+    matches!(read_part(alloc, words, 6), Ok(Some(_)))
+}
+
+#[test]
+fn parts_have_one_spelling(rt: HostRuntime) {
+    for words in ["1/1", "1/2", "2/2", "7/10", "4294967295/4294967295"] {
+        assert!(rt; is_part(rt.alloc(), words));
+    }
+    for words in NO_PARTS {
+        assert!(rt; !is_part(rt.alloc(), words));
+    }
 }
 
 #[test]

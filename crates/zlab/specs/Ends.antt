@@ -1,5 +1,5 @@
 -- The text of a search over all orders of turns.
-use Rattle.std.specs.Prelude.{ℕ, ◌≡◌, nat_le, Bool, true, false, List, [], ◌∷◌, ◌++◌, codes, length, map, Option, None, Some, if◌then◌else◌}
+use Rattle.std.specs.Prelude.{ℕ, ◌≡◌, ◌≤◌, nat_le, Bool, true, false, List, [], ◌∷◌, ◌++◌, codes, length, map, Option, None, Some, if◌then◌else◌}
 use Rattle.std.specs.Fmt.{decimal}
 use Rattle.std.specs.Io.KnownBytes.{Appends}
 use Rattle.std.specs.List.{flat_map}
@@ -7,14 +7,17 @@ use Rattle.zl_code.specs.Common.{Library}
 use Rattle.zl_code.specs.Own.{OwnWorld}
 use Rattle.zl_code.specs.declared.history.ProcState.{ProcState}
 use Rattle.zl_explore.specs.Bad.{FitsOne, IsGoodEnd, NamesEnd, words_of}
+use Rattle.zl_calls.specs.World.{Machine, own_here}
+use Rattle.zl_explore.specs.Part.{IsOnly, Part}
 use Rattle.zl_explore.specs.Paths.{IsIn}
-use Rattle.zl_explore.specs.Searching.{AreAll, HasNone, IsBadOrder, IsEnd, IsEndless}
+use Rattle.zl_explore.specs.Searching.{AreAll, HasNone, IsBadOrder, IsEnd, IsEndless, IsKnown, Search}
 use Rattle.zl_explore.specs.declared.bad.Bad.{Bad}
 use Rattle.zl_explore.specs.declared.ends.BadTurn.{BadTurn}
 use Rattle.zl_explore.specs.declared.ends.End.{End as Told}
 use Rattle.zl_sched.specs.Follows.{turns_of}
 use Rattle.zl_trace.specs.Output.{AppendsBeginning}
 use Rattle.zl_trace.specs.Text.{state_line}
+use Rattle.zlab.specs.declared.ends.Sought.{Sought as Asked}
 use Rattle.zlab.specs.declared.fault.Verdict.{Verdict}
 use Rattle.zlab.specs.declared.fault.Verdict.TheVariants as verdict
 
@@ -26,6 +29,19 @@ pub record End : Type 0 where
 -- own steps along the schedule lead from the world to one in which nobody is ready, and everybody is in these states
 abbrev pub IsEndFrom : Library → OwnWorld → End → Type 0
 IsEndFrom lib o e = IsEnd lib o (turns_of e.schedule) e.states
+
+-- what is asked of a search: what no order may have, of which part the orders are, and how many worlds there may be
+pub record Sought : Type 0 where
+  pub bad : List Bad
+  pub part : Part
+  pub most : ℕ
+
+-- that of the words / that of a search
+abbrev pub sought_by : Asked → Sought
+sought_by a = record { bad = a.bad.items; part = a.part; most = a.worlds }
+
+abbrev pub sought : Search → Sought
+sought s = record { bad = s.bad; part = s.part; most = s.most }
 
 -- ---- lines
 
@@ -69,53 +85,55 @@ abbrev pub endless_line : Bool → List ℕ
 endless_line true = codes "endless\n"
 endless_line false = []
 
--- whether own steps lead to a world from which none lead to an end
-abbrev pub SaysEndless : Bool → Library → OwnWorld → Type 0
-SaysEndless true lib o = IsEndless lib o
-SaysEndless false lib o = IsEndless lib o → ⊥
+-- whether own steps lead to a world from which none lead to an end; a part alone can't tell that none do
+abbrev pub SaysEndless : Bool → Library → OwnWorld → Part → Type 0
+SaysEndless true lib o part = IsEndless lib o
+SaysEndless false lib o part = IsOnly part → IsEndless lib o → ⊥
 
--- every order that comes to an end comes to one of these, none of which a pattern names, and no order has an item that one names
-pub record SaysAll (lib : Library) (o : OwnWorld) (bad : List Bad) (ends : List End) : Type 0 where
-  pub all : AreAll lib o (map (λ e. e.states) ends)
-  pub none : HasNone lib o bad
-  pub good : (e : End) → IsIn ends e → IsGoodEnd bad e.states
+-- every order that comes to an end comes to one of these, none of which a pattern names, and no order has an item that one names; of a
+-- part that is known of its own orders
+pub record SaysAll (lib : Library) (o : OwnWorld) (asked : Sought) (endless : Bool) (ends : List End) : Type 0 where
+  pub all : IsOnly asked.part → AreAll lib o (map (λ e. e.states) ends)
+  pub none : IsOnly asked.part → HasNone lib o asked.bad
+  pub known : (m : Machine) → m.programs ≡ lib → own_here m ≡ o → IsKnown m asked.part (map (λ e. e.states) ends) asked.bad endless
+  pub good : (e : End) → IsIn ends e → IsGoodEnd asked.bad e.states
 
--- what a last line with counts says of the ends above it
-abbrev pub Says : Verdict → Bool → Library → OwnWorld → List Bad → List End → Type 0
-Says verdict.Done endless lib o bad ends = SaysAll lib o bad ends × SaysEndless endless lib o
-Says verdict.Cut false lib o bad ends = Unit {0}
-Says verdict.Memory false lib o bad ends = Unit {0}
-Says _ _ lib o bad ends = ⊥
+-- what a last line with counts says of the ends above it; it is cut only where as many worlds were met as there may be
+abbrev pub Says : Verdict → Bool → Library → OwnWorld → Sought → (worlds : ℕ) → List End → Type 0
+Says verdict.Done endless lib o asked worlds ends = SaysAll lib o asked endless ends × SaysEndless endless lib o asked.part
+Says verdict.Cut false lib o asked worlds ends = asked.most ≤ worlds
+Says verdict.Memory false lib o asked worlds ends = Unit {0}
+Says _ _ lib o asked worlds ends = ⊥
 
 -- what stands behind the ends: counts, or the pattern that names what an order has, which is the last of these, or an item of the last
 -- turn of a schedule
-pub data Closes (lib : Library) (o : OwnWorld) (bad : List Bad) (limit : ℕ) (ends : List End) : Verdict → List ℕ → Type 0 where
-  counts : (v : Verdict) (endless : Bool) → Says v endless lib o bad ends → (worlds turns : ℕ)
-      → Closes lib o bad limit ends v (endless_line endless ++ last_line (verdict_word v) worlds turns (length ends))
-  bad_end : (b : Bad) → IsIn bad b → (before : List End) (e : End) → ends ≡ before ++ (e ∷ []) → FitsOne b e.states
-      → Closes lib o bad limit ends verdict.Bad (bad_line b)
-  bad_turn : (b : Bad) → IsIn bad b → (schedule : List (ℕ × ℕ)) → IsBadOrder lib o (turns_of schedule) b
-      → Closes lib o bad limit ends verdict.Bad (schedule_text limit schedule ++ bad_line b)
+pub data Closes (lib : Library) (o : OwnWorld) (asked : Sought) (limit : ℕ) (ends : List End) : Verdict → List ℕ → Type 0 where
+  counts : (v : Verdict) (endless : Bool) (worlds turns : ℕ) → Says v endless lib o asked worlds ends
+      → Closes lib o asked limit ends v (endless_line endless ++ last_line (verdict_word v) worlds turns (length ends))
+  bad_end : (b : Bad) → IsIn asked.bad b → (before : List End) (e : End) → ends ≡ before ++ (e ∷ []) → FitsOne b e.states
+      → Closes lib o asked limit ends verdict.Bad (bad_line b)
+  bad_turn : (b : Bad) → IsIn asked.bad b → (schedule : List (ℕ × ℕ)) → IsBadOrder lib o (turns_of schedule) b
+      → Closes lib o asked limit ends verdict.Bad (schedule_text limit schedule ++ bad_line b)
 
 -- the lines are those of a search over all orders from the world
-pub record IsSearchText (lib : Library) (o : OwnWorld) (bad : List Bad) (limit : ℕ) (v : Verdict) (lines : List ℕ) : Type 0 where
+pub record IsSearchText (lib : Library) (o : OwnWorld) (asked : Sought) (limit : ℕ) (v : Verdict) (lines : List ℕ) : Type 0 where
   pub ends : List End
   pub are_ends : (e : End) → IsIn ends e → IsEndFrom lib o e
   pub rest : List ℕ
-  pub closes : Closes lib o bad limit ends v rest
+  pub closes : Closes lib o asked limit ends v rest
   pub are : lines ≡ flat_map (end_text limit) ends ++ rest
 
 -- the writer got them
-pub record WritesEnds (lib : Library) (o : OwnWorld) (bad : List Bad) (limit : ℕ) (v : Verdict) (old new : Option (List ℕ)) : Type 0 where
+pub record WritesEnds (lib : Library) (o : OwnWorld) (asked : Sought) (limit : ℕ) (v : Verdict) (old new : Option (List ℕ)) : Type 0 where
   pub lines : List ℕ
-  pub is_text : IsSearchText lib o bad limit v lines
+  pub is_text : IsSearchText lib o asked limit v lines
   pub written : Appends old new lines
 
 -- the writer got a beginning of such lines, or nothing
-pub data BeginsEnds (lib : Library) (o : OwnWorld) (bad : List Bad) (limit : ℕ) (old : Option (List ℕ)) : Option (List ℕ) → Type 0 where
-  no_end : BeginsEnds lib o bad limit old old
-  some_ends : (v : Verdict) (lines : List ℕ) (new : Option (List ℕ)) → IsSearchText lib o bad limit v lines → AppendsBeginning old new lines
-      → BeginsEnds lib o bad limit old new
+pub data BeginsEnds (lib : Library) (o : OwnWorld) (asked : Sought) (limit : ℕ) (old : Option (List ℕ)) : Option (List ℕ) → Type 0 where
+  no_end : BeginsEnds lib o asked limit old old
+  some_ends : (v : Verdict) (lines : List ℕ) (new : Option (List ℕ)) → IsSearchText lib o asked limit v lines → AppendsBeginning old new lines
+      → BeginsEnds lib o asked limit old new
 
 -- ---- what the parts of the engine do
 
@@ -132,37 +150,35 @@ pub record PushesTurn (limit : ℕ) (t : BadTurn) (old new : List ℕ) : Type 0 
   pub is : new ≡ old ++ (schedule_text limit schedule ++ bad_line t.bad)
 
 -- the writer got such a last line
-pub record WritesLast (endless : Bool) (word : List ℕ) (ends : ℕ) (old new : Option (List ℕ)) : Type 0 where
-  pub worlds : ℕ
+pub record WritesLast (endless : Bool) (word : List ℕ) (worlds ends : ℕ) (old new : Option (List ℕ)) : Type 0 where
   pub turns : ℕ
   pub written : Appends old new (endless_line endless ++ last_line word worlds turns ends)
 
 -- the writer got a beginning of such a line, or nothing
-pub record BeginsLast (endless : Bool) (word : List ℕ) (ends : ℕ) (old new : Option (List ℕ)) : Type 0 where
-  pub worlds : ℕ
+pub record BeginsLast (endless : Bool) (word : List ℕ) (worlds ends : ℕ) (old new : Option (List ℕ)) : Type 0 where
   pub turns : ℕ
   pub begun : AppendsBeginning old new (endless_line endless ++ last_line word worlds turns ends)
 
 -- the writer got the lines of the end, or also that a pattern names what one is in there, or only that memory was refused
-pub data WritesEnd (bad : List Bad) (limit : ℕ) (e : Told) (ends : ℕ) (old new : Option (List ℕ)) : Option Verdict → Type 0 where
-  good_end : (text : List ℕ) → PushesEnd limit e [] text → IsGoodEnd bad e.states.items → Appends old new text → WritesEnd bad limit e ends old new None
+pub data WritesEnd (bad : List Bad) (limit : ℕ) (e : Told) (worlds ends : ℕ) (old new : Option (List ℕ)) : Option Verdict → Type 0 where
+  good_end : (text : List ℕ) → PushesEnd limit e [] text → IsGoodEnd bad e.states.items → Appends old new text → WritesEnd bad limit e worlds ends old new None
   named_end : (text : List ℕ) → PushesEnd limit e [] text → (b : Bad) → NamesEnd bad e.states.items b → Appends old new (text ++ bad_line b)
-      → WritesEnd bad limit e ends old new (Some verdict.Bad)
-  no_end_written : WritesLast false (codes "memory") ends old new → WritesEnd bad limit e ends old new (Some verdict.Memory)
+      → WritesEnd bad limit e worlds ends old new (Some verdict.Bad)
+  no_end_written : WritesLast false (codes "memory") worlds ends old new → WritesEnd bad limit e worlds ends old new (Some verdict.Memory)
 
 -- the writer got a beginning of such lines, or nothing
-pub data BeginsEnd (bad : List Bad) (limit : ℕ) (e : Told) (ends : ℕ) (old new : Option (List ℕ)) : Type 0 where
-  good_end_begun : (text : List ℕ) → PushesEnd limit e [] text → AppendsBeginning old new text → BeginsEnd bad limit e ends old new
+pub data BeginsEnd (bad : List Bad) (limit : ℕ) (e : Told) (worlds ends : ℕ) (old new : Option (List ℕ)) : Type 0 where
+  good_end_begun : (text : List ℕ) → PushesEnd limit e [] text → AppendsBeginning old new text → BeginsEnd bad limit e worlds ends old new
   named_end_begun : (text : List ℕ) → PushesEnd limit e [] text → (b : Bad) → NamesEnd bad e.states.items b
-      → AppendsBeginning old new (text ++ bad_line b) → BeginsEnd bad limit e ends old new
-  no_end_begun : BeginsLast false (codes "memory") ends old new → BeginsEnd bad limit e ends old new
+      → AppendsBeginning old new (text ++ bad_line b) → BeginsEnd bad limit e worlds ends old new
+  no_end_begun : BeginsLast false (codes "memory") worlds ends old new → BeginsEnd bad limit e worlds ends old new
 
 -- the writer got the lines of the turn, or only that memory was refused
-pub data WritesTurn (limit : ℕ) (t : BadTurn) (ends : ℕ) (old new : Option (List ℕ)) : Verdict → Type 0 where
-  turn : (text : List ℕ) → PushesTurn limit t [] text → Appends old new text → WritesTurn limit t ends old new verdict.Bad
-  no_turn : WritesLast false (codes "memory") ends old new → WritesTurn limit t ends old new verdict.Memory
+pub data WritesTurn (limit : ℕ) (t : BadTurn) (worlds ends : ℕ) (old new : Option (List ℕ)) : Verdict → Type 0 where
+  turn : (text : List ℕ) → PushesTurn limit t [] text → Appends old new text → WritesTurn limit t worlds ends old new verdict.Bad
+  no_turn : WritesLast false (codes "memory") worlds ends old new → WritesTurn limit t worlds ends old new verdict.Memory
 
 -- the writer got a beginning of such lines, or nothing
-pub data BeginsTurn (limit : ℕ) (t : BadTurn) (ends : ℕ) (old new : Option (List ℕ)) : Type 0 where
-  turn_begun : (text : List ℕ) → PushesTurn limit t [] text → AppendsBeginning old new text → BeginsTurn limit t ends old new
-  no_turn_begun : BeginsLast false (codes "memory") ends old new → BeginsTurn limit t ends old new
+pub data BeginsTurn (limit : ℕ) (t : BadTurn) (worlds ends : ℕ) (old new : Option (List ℕ)) : Type 0 where
+  turn_begun : (text : List ℕ) → PushesTurn limit t [] text → AppendsBeginning old new text → BeginsTurn limit t worlds ends old new
+  no_turn_begun : BeginsLast false (codes "memory") worlds ends old new → BeginsTurn limit t worlds ends old new

@@ -1,11 +1,10 @@
 -- What the engine of a search over all orders answers to a scenario.
 use Rattle.std.specs.Prelude.{ℕ, ◌≡◌, List, Option, None}
 use Rattle.std.specs.Io.KnownBytes.{Appends}
-use Rattle.zl_code.specs.Common.{Library, IsSound}
+use Rattle.zl_code.specs.Common.{Library}
 use Rattle.zl_code.specs.Headline.{IsSizedBoot}
 use Rattle.zl_code.specs.OwnBoot.{own_boot}
 use Rattle.zl_calls.specs.World.{Machine, own_here}
-use Rattle.zl_explore.specs.declared.bad.Bad.{Bad}
 use Rattle.zl_scenario.specs.Causes.{cause_name}
 use Rattle.zl_scenario.specs.Reading.{Lists, AreAccepted}
 use Rattle.zl_scenario.specs.Reads.{IsRead}
@@ -16,14 +15,14 @@ use Rattle.zlab.specs.declared.exploring.Begun.{Begun}
 use Rattle.zlab.specs.declared.exploring.Begun.TheVariants as begun
 use Rattle.zlab.specs.declared.fault.Verdict.{Verdict}
 use Rattle.zlab.specs.declared.fault.Verdict.TheVariants as verdict
-use Rattle.zlab.specs.Ends.{IsSearchText}
+use Rattle.zlab.specs.Ends.{IsSearchText, Sought}
 use Rattle.zlab.specs.Engine.{IsFirstFault, IsTextOf}
 use Rattle.zlab.specs.Input.{FitsInput}
 use Rattle.zlab.specs.Text.{refused_line}
 
--- The lines are those of a search over all orders of the scenario in the text, from the lab's own boot world, for what no order may have. Neither the text nor a line
--- of it is at fault; its schedule doesn't count.
-pub record IsSearchOf (text : List ℕ) (bad : List Bad) (v : Verdict) (lines : List ℕ) : Type 0 where
+-- The lines are those of a search over all orders of the scenario in the text, from the lab's own boot world, for what is asked. Neither the
+-- text nor a line of it is at fault; its schedule doesn't count.
+pub record IsSearchOf (text : List ℕ) (asked : Sought) (v : Verdict) (lines : List ℕ) : Type 0 where
   pub fits : FitsInput text
   pub said : Scenario
   pub read : IsRead text (record { said = said; fault = None })
@@ -32,26 +31,26 @@ pub record IsSearchOf (text : List ℕ) (bad : List Bad) (v : Verdict) (lines : 
   pub programs : Lists said.programs library
   pub accepted : AreAccepted library
   pub boots : IsSizedBoot library said.statements (own_boot library said.statements).world
-  pub is_text : IsSearchText library (own_boot library said.statements) bad said.limit v lines
+  pub is_text : IsSearchText library (own_boot library said.statements) asked said.limit v lines
 
 -- the lines are the answer to the text
-pub data IsExplored (text : List ℕ) (bad : List Bad) : Verdict → List ℕ → Type 0 where
-  ends : (v : Verdict) (lines : List ℕ) → IsSearchOf text bad v lines → IsExplored text bad v lines
-  refusal : (fault : LineFault) → IsFirstFault text fault → IsExplored text bad verdict.Refused (refused_line fault.line (cause_name fault.cause))
+pub data IsExplored (text : List ℕ) (asked : Sought) : Verdict → List ℕ → Type 0 where
+  ends : (v : Verdict) (lines : List ℕ) → IsSearchOf text asked v lines → IsExplored text asked v lines
+  refusal : (fault : LineFault) → IsFirstFault text fault → IsExplored text asked verdict.Refused (refused_line fault.line (cause_name fault.cause))
 
 -- the writer got the answer to what a reader had
-pub record Explores (told : Option (List ℕ)) (bad : List Bad) (v : Verdict) (old new : Option (List ℕ)) : Type 0 where
+pub record Explores (told : Option (List ℕ)) (asked : Sought) (v : Verdict) (old new : Option (List ℕ)) : Type 0 where
   pub text : List ℕ
   pub is_text : IsTextOf told text
   pub lines : List ℕ
-  pub is_answer : IsExplored text bad v lines
+  pub is_answer : IsExplored text asked v lines
   pub written : Appends old new lines
 
 -- the writer got a beginning of such an answer, or nothing
-pub data BeginsExplored (told : Option (List ℕ)) (bad : List Bad) (old : Option (List ℕ)) : Option (List ℕ) → Type 0 where
-  unexplored : BeginsExplored told bad old old
-  some_explored : (text : List ℕ) (v : Verdict) (lines : List ℕ) (new : Option (List ℕ)) → IsTextOf told text → IsExplored text bad v lines
-      → AppendsBeginning old new lines → BeginsExplored told bad old new
+pub data BeginsExplored (told : Option (List ℕ)) (asked : Sought) (old : Option (List ℕ)) : Option (List ℕ) → Type 0 where
+  unexplored : BeginsExplored told asked old old
+  some_explored : (text : List ℕ) (v : Verdict) (lines : List ℕ) (new : Option (List ℕ)) → IsTextOf told text → IsExplored text asked v lines
+      → AppendsBeginning old new lines → BeginsExplored told asked old new
 
 -- ---- what the parts of the engine do
 

@@ -6,58 +6,77 @@ ghost use Rattle.zl_explore.specs.Private.{IsStill};
 ghost use Rattle.zl_explore.specs.Searching.{BeganWith};
 ghost use Rattle.zl_sched.specs.Follows.{turns_of};
 ghost use Rattle.zl_trace.specs.Text.{state_line};
-ghost use Rattle.zlab.specs.Ends.{BeginsEnd, BeginsEnds, BeginsLast, BeginsTurn, PushesEnd, PushesTurn, WritesEnd, WritesEnds, WritesLast, WritesTurn, bad_line, by_line, endless_line, turn_line, verdict_word};
+ghost use Rattle.zlab.specs.Ends.{BeginsEnd, BeginsEnds, BeginsLast, BeginsTurn, PushesEnd, PushesTurn, WritesEnd, WritesEnds, WritesLast, WritesTurn, bad_line, by_line, endless_line, sought, sought_by, turn_line, verdict_word};
 
 use crate::fault::{EngineFault, Verdict};
 use std::alloc::{AllocError, Global};
 use std::io::Write;
 use zl_calls::World;
 use zl_code::ProcState;
-use zl_explore::{Bad, BadTurn, End, Next, Search, named_end};
+use zl_explore::{Bad, BadTurn, End, Next, Part, Search, named_end};
 use zl_rights::Pid;
 use zl_trace::{empty_block, push_state, write_all};
 
+/// What is asked of a search.
+#[derive(Drop)]
+pub struct Sought {
+    /// What no order may have.
+    pub bad: Vec<Bad>,
+    /// Of which part the orders are.
+    pub part: Part,
+    /// How many worlds there may be.
+    pub worlds: u32,
+}
+
+/// Who is told how far a search is.
+pub trait Progress {
+    /// So many worlds were met.
+    fn met(&mut self, worlds: usize);
+}
+
 /// Searches all orders of turns from the world on, and writes each end as it is met, and the last line. An
-/// end whose schedule is longer than `limit` says how long it is. There are no more than so many worlds.
-/// No order may have what the patterns name.
+/// end whose schedule is longer than `limit` says how long it is. `progress` is told of each doubling of the
+/// worlds.
 ///
 /// `Done` comes where all orders are known, `Bad` where one has what a pattern names, `Cut` where there would
 /// be more worlds, and `Memory` where memory is refused to the search. The world has to be as boots and own
 /// steps leave one.
-pub fn write_ends<W: Write>(
+pub fn write_ends<W: Write, P: Progress>(
     alloc: Global,
     writer: &mut W,
+    progress: &mut P,
     world: World,
-    bad: Vec<Bad>,
+    asked: Sought,
     limit: u64,
-    worlds: usize,
 ) -> Result<Verdict, EngineFault>
     requires { IsStill (own_here world) }
-    ensures ok { IfOk result (λ verdict. WritesEnds world.programs (own_here world) bad.items limit
+    ensures ok { IfOk result (λ verdict. WritesEnds world.programs (own_here world) (sought_by asked) limit
         verdict (W.contents writer.old) (W.contents writer.new)) }
-    ensures err { OnErr result (BeginsEnds world.programs (own_here world) bad.items limit
+    ensures err { OnErr result (BeginsEnds world.programs (own_here world) (sought_by asked) limit
         (W.contents writer.old) (W.contents writer.new)) }
     ensures fault { IfErr result (λ fault. fault ≢ EngineFault.Read) }
 {
     let mut text = empty_block(alloc)?;
-    let mut search = Search::new(alloc, world, bad, worlds)?;
-    write_found(alloc, writer, &mut text, &mut search, limit)
+    let Sought { bad, part, worlds } = asked;
+    let mut search = Search::new(alloc, world, bad, part, worlds as usize)?;
+    write_found(alloc, writer, progress, &mut text, &mut search, limit)
 }
 
 /// Writes each end that the search meets, and the last line, each in place of what stands in the text.
-fn write_found<W: Write>(
+fn write_found<W: Write, P: Progress>(
     alloc: Global,
     writer: &mut W,
+    progress: &mut P,
     text: &mut String,
     search: &mut Search,
     limit: u64,
 ) -> Result<Verdict, EngineFault>
     requires { search.old.told ≡ [] }
     ensures ok { IfOk result (λ verdict. (m : MachineValue) → IsStill (own_here m)
-        → BeganWith m search.old → WritesEnds m.programs (own_here m) search.old.bad limit
+        → BeganWith m search.old → WritesEnds m.programs (own_here m) (sought search.old) limit
         verdict (W.contents writer.old) (W.contents writer.new)) }
     ensures err { OnErr result ((m : MachineValue) → IsStill (own_here m)
-        → BeganWith m search.old → BeginsEnds m.programs (own_here m) search.old.bad limit
+        → BeganWith m search.old → BeginsEnds m.programs (own_here m) (sought search.old) limit
         (W.contents writer.old) (W.contents writer.new)) }
     ensures fault { IfErr result (λ fault. fault ≢ EngineFault.Read) }
 {
@@ -65,6 +84,10 @@ fn write_found<W: Write>(
         let ends = search.ends();
         let end = match search.next_end() {
             Next::End(end) => end,
+            Next::Doubled => {
+                progress.met(search.worlds());
+                continue;
+            }
             Next::Bad(turn) => return write_turn(alloc, writer, text, search, &turn, limit, ends),
             Next::All { endless } => {
                 return write_last(writer, text, search, Verdict::Done, endless, ends);
@@ -90,9 +113,9 @@ fn write_end<W: Write>(
     limit: u64,
     ends: usize,
 ) -> Result<Option<Verdict>, EngineFault>
-    ensures ok { IfOk result (WritesEnd search.now.bad limit end.now ends (W.contents writer.old)
+    ensures ok { IfOk result (WritesEnd search.now.bad limit end.now search.now.worlds ends (W.contents writer.old)
         (W.contents writer.new)) }
-    ensures err { OnErr result (BeginsEnd search.now.bad limit end.now ends
+    ensures err { OnErr result (BeginsEnd search.now.bad limit end.now search.now.worlds ends
         (W.contents writer.old) (W.contents writer.new)) }
     ensures fault { IfErr result (λ fault. fault ≢ EngineFault.Read) }
 {
@@ -122,9 +145,9 @@ fn write_turn<W: Write>(
     limit: u64,
     ends: usize,
 ) -> Result<Verdict, EngineFault>
-    ensures ok { IfOk result (WritesTurn limit turn.now ends (W.contents writer.old)
+    ensures ok { IfOk result (WritesTurn limit turn.now search.now.worlds ends (W.contents writer.old)
         (W.contents writer.new)) }
-    ensures err { OnErr result (BeginsTurn limit turn.now ends (W.contents writer.old)
+    ensures err { OnErr result (BeginsTurn limit turn.now search.now.worlds ends (W.contents writer.old)
         (W.contents writer.new)) }
     ensures fault { IfErr result (λ fault. fault ≢ EngineFault.Read) }
 {
@@ -144,9 +167,9 @@ fn write_memory<W: Write>(
     ends: usize,
 ) -> Result<Verdict, EngineFault>
     ensures verdict { IfOk result (λ ended. ended ≡ Verdict.Memory) }
-    ensures ok { OnOk result (WritesLast false (codes "memory") ends (W.contents writer.old)
+    ensures ok { OnOk result (WritesLast false (codes "memory") search.now.worlds ends (W.contents writer.old)
         (W.contents writer.new)) }
-    ensures err { OnErr result (BeginsLast false (codes "memory") ends (W.contents writer.old)
+    ensures err { OnErr result (BeginsLast false (codes "memory") search.now.worlds ends (W.contents writer.old)
         (W.contents writer.new)) }
     ensures fault { IfErr result (λ fault. fault ≢ EngineFault.Read) }
 {
@@ -164,9 +187,9 @@ fn write_last<W: Write>(
     ends: usize,
 ) -> Result<Verdict, EngineFault>
     ensures verdict { IfOk result (λ ended. ended ≡ verdict) }
-    ensures ok { OnOk result (WritesLast endless (verdict_word verdict) ends (W.contents writer.old)
+    ensures ok { OnOk result (WritesLast endless (verdict_word verdict) search.now.worlds ends (W.contents writer.old)
         (W.contents writer.new)) }
-    ensures err { OnErr result (BeginsLast endless (verdict_word verdict) ends (W.contents writer.old)
+    ensures err { OnErr result (BeginsLast endless (verdict_word verdict) search.now.worlds ends (W.contents writer.old)
         (W.contents writer.new)) }
     ensures fault { IfErr result (λ fault. fault ≢ EngineFault.Read) }
 {

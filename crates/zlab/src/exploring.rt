@@ -1,10 +1,11 @@
 //! The engine of a search over all orders: a scenario is read, and each end written that some order has.
 ghost use Rattle.std.specs.Prelude.{◌≡◌, ◌≢◌, IfOk, IfErr, OnErr};
+ghost use Rattle.zlab.specs.Ends.{sought_by};
 ghost use Rattle.zlab.specs.Exploring.{Begins, BeginsExplored, Explores, IsBegun};
 ghost use Rattle.zlab.specs.Input.{FitsInput, Holds, IsBounded, TakesNoMore};
 ghost use Rattle.std.specs.Prelude.{List, ℕ};
 
-use crate::ends::write_ends;
+use crate::ends::{Progress, Sought, write_ends};
 use crate::engine::{TOO_LONG, fault_of_boot, write_refusal};
 use crate::fault::{EngineFault, Verdict};
 use crate::hints::explain_search;
@@ -12,7 +13,6 @@ use crate::input::{Input, read_input};
 use std::alloc::Global;
 use std::io::{Read, Write};
 use zl_calls::World;
-use zl_explore::Bad;
 use zl_hints::{STANDARD_INPUT, explain_scenario};
 use zl_scenario::{LineFault, Reading, Scenario, read_scenario};
 
@@ -33,23 +33,24 @@ pub enum Begun {
 /// to a world in which nobody is ready, and in which the processes are in the states that stand there. A
 /// last line with `all`, by which it is `Done`, comes only where every order of such steps, of any length,
 /// that comes to a world in which nobody is ready comes to the states of one of those ends, and no order has
-/// what one of the patterns names. It is `Bad` where one has, with a schedule that leads there, `Cut` where
-/// there would be more than `worlds` worlds, and `Memory` where memory was refused. No more is read than one
-/// byte past 4,194,304. To `hints` it adds for a person why the input is refused, or why the search isn't
+/// what one of the patterns names. Of a part that is said of its own orders, so that the answers of all parts
+/// together say it of all. It is `Bad` where one has, with a schedule that leads there, `Cut` where there
+/// would be more worlds than there may be, and `Memory` where memory was refused. No more is read than one
+/// byte past 4,194,304. `progress` is told of each doubling of the worlds. To `hints` it adds for a person why the input is refused, or why the search isn't
 /// whole.
 /// A fault of the reader is `Read`, with nothing written. A fault of the writer, and a want of memory
 /// before the search begins, leave nothing or a beginning of such an answer.
-pub fn explore_engine<R: Read, W: Write>(
+pub fn explore_engine<R: Read, W: Write, P: Progress>(
     alloc: Global,
     reader: &mut R,
     writer: &mut W,
+    progress: &mut P,
     hints: &mut String,
-    bad: Vec<Bad>,
-    worlds: u32,
+    asked: Sought,
 ) -> Result<Verdict, EngineFault>
-    ensures ok { IfOk result (λ verdict. Explores (R.remaining reader.old) bad.items verdict
+    ensures ok { IfOk result (λ verdict. Explores (R.remaining reader.old) (sought_by asked) verdict
         (W.contents writer.old) (W.contents writer.new)) }
-    ensures err { OnErr result (BeginsExplored (R.remaining reader.old) bad.items
+    ensures err { OnErr result (BeginsExplored (R.remaining reader.old) (sought_by asked)
         (W.contents writer.old) (W.contents writer.new)) }
     ensures read { IfErr result (λ fault. fault ≡ EngineFault.Read → W.contents writer.new
         ≡ W.contents writer.old) }
@@ -58,7 +59,8 @@ pub fn explore_engine<R: Read, W: Write>(
     let input = read_input(alloc, reader)?;
     match begin(alloc, &input, hints)? {
         Begun::World(world, limit) => {
-            let ended = write_ends(alloc, writer, world, bad, limit, worlds as usize);
+            let worlds = asked.worlds;
+            let ended = write_ends(alloc, writer, progress, world, asked, limit);
             explain_search(hints, &ended, worlds);
             ended
         }

@@ -10,4 +10,4 @@ mod search;
 
 pub use replay::{explain_difference, explain_items, explain_line};
 pub use run::{explain_nothing, explain_run, explain_threads};
-pub use search::explain_search;
+pub use search::{OnError, explain_part, explain_search};

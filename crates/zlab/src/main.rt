@@ -27,7 +27,12 @@ mod tasks;
 mod text;
 mod told;
 
+ghost use Rattle.std.specs.Prelude.{◌≡◌, IfNone, IfOk, IfSome};
+ghost use Rattle.zl_explore.specs.Part.{IsOnly, part_words};
+
+use ends::Sought;
 use fault::{EngineFault, Verdict};
+use hints::explain_part;
 use std::alloc::{AllocError, Global};
 use std::process::ExitCode;
 use std::rt::{Env, Files};
@@ -37,7 +42,7 @@ use std::{env, io};
 use tasks::{assemble, check, explore, replay, run_threads, show, step, step_files};
 use thiserror::Error;
 use zl_command::{Asked, Task, WordFault};
-use zl_explore::{Bad, read_bad};
+use zl_explore::{Bad, Part, read_bad, read_part};
 use zl_hints::{explain_bad, explain_words};
 
 /// Why the program ends without an answer.
@@ -91,7 +96,7 @@ fn main(rt: HostRuntime) -> ExitCode {
 
 /// Does what the words ask for. What standard error is to say beside the verdict or the failure is
 /// put into `hints`.
-fn run<R: AllocGlobal + Env + Files + Input + Print + Threads + Wait + Sync>(
+fn run<R: AllocGlobal + Env + Eprint + Files + Input + Print + Threads + Wait + Sync>(
     rt: &R,
     hints: &mut String,
 ) -> Result<Verdict, Failure> {
@@ -126,10 +131,13 @@ fn run<R: AllocGlobal + Env + Files + Input + Print + Threads + Wait + Sync>(
                 scenario,
                 worlds,
                 bad,
+                part,
+                from,
             },
         ) => {
             let bad = patterns(rt.alloc(), hints, &bad)?;
-            explore(rt, hints, scenario, bad, worlds)
+            let part = part_asked(rt.alloc(), hints, part, from)?;
+            explore(rt, hints, scenario, Sought { bad, part, worlds })
         }
     };
     Ok(ended?)
@@ -152,6 +160,30 @@ fn patterns(alloc: Global, hints: &mut String, words: &[&str]) -> Result<Vec<Bad
         }
     }
     Ok(bad)
+}
+
+/// The part with these words, and the only one where there are none; words that are none are a wrong command
+/// line.
+fn part_asked(
+    alloc: Global,
+    hints: &mut String,
+    words: Option<&str>,
+    from: u32,
+) -> Result<Part, WordFault>
+    ensures only { IfOk result (λ part. IfNone words.entry (IsOnly part)) }
+    ensures named { IfOk result (λ part. IfSome words.entry
+        (λ named. (named.now ≡ part_words part) × (part.from ≡ from))) }
+{
+    let Some(words) = words else {
+        return Ok(Part::only());
+    };
+    match read_part(alloc, words, from)? {
+        Some(part) => Ok(part),
+        None => {
+            explain_part(hints, words.as_bytes());
+            Err(WordFault::Usage)
+        }
+    }
 }
 
 /// The program's name and the words after it.

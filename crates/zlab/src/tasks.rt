@@ -5,10 +5,12 @@ ghost use Rattle.zl_code.specs.Common.{MOST_ITEMS};
 
 use crate::assembling::asm_engine;
 use crate::checking::check_engine;
+use crate::ends::Sought;
 use crate::engine::step_engine;
 use crate::exploring::explore_engine;
 use crate::fault::{EngineFault, Verdict};
 use crate::files::step_files_engine;
+use crate::hints::OnError;
 use crate::replaying::replay_engine;
 use crate::running::run_engine;
 use crate::told::Told;
@@ -18,7 +20,6 @@ use std::rt::Files;
 use std::sync::Wait;
 use std::thread::Threads;
 use std::{fs, io};
-use zl_explore::Bad;
 use zl_hints::{explain_failure, explain_opening};
 
 const INPUT: &str = "standard input";
@@ -136,18 +137,25 @@ pub fn run_threads<R: AllocGlobal + Files + Print + Threads + Wait + Sync>(
     answer_with(hints, ended, &reader, &writer)
 }
 
-/// Searches all orders of the scenario in the file, over so many worlds at most and for what none may have,
-/// and answers on standard output.
-pub fn explore<R: AllocGlobal + Files + Print>(
+/// Searches all orders of the scenario in the file for what is asked, and answers on standard output. Standard
+/// error says how many worlds were met.
+pub fn explore<R: AllocGlobal + Eprint + Files + Print>(
     rt: &R,
     hints: &mut String,
     scenario: &str,
-    bad: Vec<Bad>,
-    worlds: u32,
+    asked: Sought,
 ) -> Result<Verdict, EngineFault> {
     let mut reader = Told::new(scenario, open(rt, hints, scenario)?);
     let mut writer = Told::new(OUTPUT, io::writer(rt));
-    let ended = explore_engine(rt.alloc(), &mut reader, &mut writer, hints, bad, worlds);
+    let mut progress = OnError { rt };
+    let ended = explore_engine(
+        rt.alloc(),
+        &mut reader,
+        &mut writer,
+        &mut progress,
+        hints,
+        asked,
+    );
     answer_with(hints, ended, &reader, &writer)
 }
 

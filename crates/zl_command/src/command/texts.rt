@@ -17,6 +17,10 @@ pub const WORLDS: &str = "The most worlds, 1 to 1000000000 [default: 1000000]";
 
 pub const BAD: &str = "What no order may have, as '* blocked'; up to 16 times";
 
+pub const PART: &str = "Only part K of N of all orders, as 2/4";
+
+pub const FROM: &str = "The turns that tell the part of an order, 0 to 1000 [default: 6]";
+
 /// The forms of the command line, and the exit statuses.
 pub const FORMS: &str = "\
 The forms of a command line:
@@ -35,7 +39,7 @@ The forms of a command line:
       256 without the option. Writes the trace that came about, with `end quiet` where no process is
       ready at the end, `end limit` or `end memory`, or `refused LINE FAULT`.
       Example: zlab run pair.zls --workers 4 --limit 1000
-  zlab explore SCENARIO [--worlds N] [--bad WORDS]..
+  zlab explore SCENARIO [--worlds N] [--bad WORDS].. [--part K/N] [--from D]
       Takes the turns of the processes of the scenario in the file SCENARIO in each order, each up
       to its next call. Writes each end that is met: the states of all processes where none is
       ready, and below `by` a schedule that leads there. A schedule in SCENARIO is read, and doesn't
@@ -47,8 +51,12 @@ The forms of a command line:
       `PID stuck` for an instruction that can't be done, and at an end `PID ended CODE`,
       `PID blocked` or `PID created`, with `*` for any PID, CALL or STATUS. The search stops at the
       first that it meets. The last line is `bad WORDS` then, below the schedule up to it.
+      `--part K/N`, as 2/4, takes part K of N of all orders: the orders whose first D turns have koids
+      with a sum that leaves K - 1 when divided by N. An order that ends before D turns is part 1's.
+      D is 0 to 1000, 6 without the option. All N parts with the same D together are the whole.
       Example: zlab explore examples/locks-crosswise.zls --worlds 100000
       Example: zlab explore examples/locks-crosswise.zls --bad '* blocked'
+      Example: zlab explore examples/locks-crosswise.zls --part 2/4 --from 3
   zlab replay SCENARIO TRACE
       Does the steps of the trace in the file TRACE again, from the scenario in the file SCENARIO,
       which has no schedule. Writes `replayed N` for the number of its items, `differs N` for the

@@ -1,7 +1,8 @@
-//! Why a search over all orders isn't whole.
+//! Why a search over all orders isn't whole, or doesn't begin.
 
+use crate::ends::Progress;
 use crate::fault::{EngineFault, Verdict};
-use zl_program_hints::Value::Number;
+use zl_program_hints::Value::{Number, Word};
 use zl_program_hints::push_text;
 
 /// Adds a line where the search met more worlds than so many.
@@ -16,5 +17,29 @@ pub fn explain_search(hints: &mut String, ended: &Result<Verdict, EngineFault>, 
     };
     if pushed.is_err() {
         hints.clear();
+    }
+}
+
+/// Adds that the words are no part.
+pub fn explain_part(hints: &mut String, words: &[u8]) {
+    let pushed = push_text(
+        hints,
+        "\"#\" is no part: a part is K/N, two decimal numbers without signs or zeros before them, K from 1 to N",
+        &[Word(words)],
+    );
+    if pushed.is_err() {
+        hints.clear();
+    }
+}
+
+/// Says on standard error how many worlds were met.
+#[derive(Drop)]
+pub struct OnError<'a, R> {
+    pub rt: &'a R,
+}
+
+impl<'a, R: Eprint> Progress for OnError<'a, R> {
+    fn met(&mut self, worlds: usize) {
+        let _ = eprintln!(self.rt; "zlab: {worlds} worlds were met so far");
     }
 }

@@ -5,11 +5,10 @@ use Rattle.zlab.proofs.ends.write_last.Goals as goal
 
 pub returns-in_err-write-clause-err : goal.returns-in_err-write-clause-err
 returns-in_err-write-clause-err g c = on_err c.from_residual.result (record {
-  worlds = 0;
   turns = 0;
   begun = record {
     written = [];
-    rest = endless_line c.args.endless ++ last_line (verdict_word c.args.verdict) 0 0 c.args.ends;
+    rest = endless_line c.args.endless ++ last_line (verdict_word c.args.verdict) c.args.search.now.worlds 0 c.args.ends;
     appended = Appends-nil _;
     beginning = refl;
   };

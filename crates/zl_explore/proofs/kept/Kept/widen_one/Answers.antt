@@ -1,7 +1,5 @@
 use Rattle.zl_code.proofs.Common.{None, ap, arith, length, nat_tests, refl, subst, sym, ◌<◌, ◌∙◌}
-use Rattle.zl_explore.specs.GoingAhead.{reduced}
-use Rattle.zl_explore.specs.Kept.{Goes}
-use Rattle.zl_explore.specs.Running.{ready_of}
+use Rattle.zl_explore.specs.Kept.{Goes, goes_of, next_of}
 use Rattle.zl_explore.proofs.Growing.{ready_there}
 use Rattle.zl_explore.proofs.Hearing.{bad_grown}
 use Rattle.zl_explore.proofs.Keeping.{bad_goes, end_is, whole_grown, whole_widened}
@@ -17,14 +15,15 @@ returns-in-Ok-All c =
     let old = c.args.self.now in
     let told = c.in-Ok-All.ensures {u = tt} in
     let widens = rw (c.in-Ok-All.field-0-is, c.deref-2.ensures.value) at told.widens in
-    let (n, there, ready) = ready_there ready_of reduced old.nodes.items old.widened c.in-Ok.pids.items c.requires.more (c.in-Ok.ensures {u = tt}) in
+    let (n, there, ready) = ready_there goes_of next_of old.nodes.items old.widened c.in-Ok.pids.items c.requires.more (c.in-Ok.ensures {u = tt}) in
     let filled : 0 < length c.in-Ok.pids.items = grind (arith, nat_tests, c.if-is_empty.false, c.is_empty.ensures) in
     subst (λ new. Goes old None new) (sym c.move_on.ensures) (record {
-      whole = whole_widened _ _ c.requires.whole refl refl c.widen.ensures.tree c.widen.ensures.edges c.widen.ensures.more_edges
+      whole = whole_widened _ _ c.requires.whole refl refl refl c.widen.ensures.tree c.widen.ensures.edges c.widen.ensures.more_edges
           c.widen.ensures.extends refl refl
           widens.0 widens.1 (rw c.in-Ok-All.field-0-is at told.have_edges) n there
           (λ none. omega (arith, filled, ap length (ready ∙ none)));
       root = refl;
+      part = refl;
       told = refl;
       leads = tt;
       moves = refl;
@@ -35,8 +34,10 @@ returns-in-Ok-All c =
 
 pub returns-in-Ok-Full : goal.returns-in-Ok-Full
 returns-in-Ok-Full c = record {
-  whole = whole_grown _ _ c.requires.whole refl refl c.widen.ensures.tree c.widen.ensures.edges c.widen.ensures.more_edges c.widen.ensures.extends refl refl;
+  whole = whole_grown _ _ c.requires.whole refl refl refl c.widen.ensures.tree c.widen.ensures.edges c.widen.ensures.more_edges
+      c.widen.ensures.extends refl refl;
   root = refl;
+  part = refl;
   told = refl;
   leads = tt;
   moves = tt;
@@ -47,8 +48,10 @@ returns-in-Ok-Full c = record {
 
 pub returns : goal.returns
 returns c = record {
-  whole = whole_grown _ _ c.requires.whole refl refl c.widen.ensures.tree c.widen.ensures.edges c.widen.ensures.more_edges c.widen.ensures.extends refl refl;
+  whole = whole_grown _ _ c.requires.whole refl refl refl c.widen.ensures.tree c.widen.ensures.edges c.widen.ensures.more_edges
+      c.widen.ensures.extends refl refl;
   root = refl;
+  part = refl;
   told = refl;
   leads = tt;
   moves = tt;
@@ -59,7 +62,7 @@ returns c = record {
 
 pub bad_turn-requires-clause-whole : goal.bad_turn-requires-clause-whole
 bad_turn-requires-clause-whole c =
-    whole_grown _ _ c.requires.whole refl refl c.widen.ensures.tree c.widen.ensures.edges c.widen.ensures.more_edges c.widen.ensures.extends refl refl
+    whole_grown _ _ c.requires.whole refl refl refl c.widen.ensures.tree c.widen.ensures.edges c.widen.ensures.more_edges c.widen.ensures.extends refl refl
 
 pub bad_turn-requires-clause-names : goal.bad_turn-requires-clause-names
 bad_turn-requires-clause-names c =
@@ -67,5 +70,5 @@ bad_turn-requires-clause-names c =
 
 pub returns-in-Ok-Bad : goal.returns-in-Ok-Bad
 returns-in-Ok-Bad c = bad_goes c.args.self.now _ c.bad_turn.result c.bad_turn.ensures.which
-    (whole_grown _ _ c.requires.whole refl refl c.widen.ensures.tree c.widen.ensures.edges c.widen.ensures.more_edges c.widen.ensures.extends refl refl)
-    refl refl refl refl c.bad_turn.ensures.leads
+    (whole_grown _ _ c.requires.whole refl refl refl c.widen.ensures.tree c.widen.ensures.edges c.widen.ensures.more_edges c.widen.ensures.extends refl refl)
+    refl refl refl refl refl c.bad_turn.ensures.leads

@@ -1,4 +1,4 @@
-use Rattle.std.proofs.Common.{IfSome, ap, arith, get_or, length, sym, take, ◌∙◌, ◌≡◌, ◌≤◌, slice_get, subst, refl}
+use Rattle.std.proofs.Common.{IfSome, ap, get_or, sym, take, ◌∙◌, ◌≡◌, slice_get, subst, refl}
 use Rattle.std.proofs.lemmas.List.{take_more, take_all}
 use Rattle.zl_explore.specs.Paths.{after}
 use Rattle.zl_explore.proofs.Leading.{after_more}

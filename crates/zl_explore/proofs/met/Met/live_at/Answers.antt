@@ -1,7 +1,5 @@
-use Rattle.std.proofs.Common.{IfSome, List, Option, Some, refl, slice_get, subst, ◌∙◌, ◌≡◌}
+use Rattle.std.proofs.Common.{List, Some, refl, slice_get, subst, ◌≡◌}
 use Rattle.std.proofs.lemmas.Option.{slice_get_read}
-use Rattle.zl_explore.specs.Met.{met}
-use Rattle.zl_explore.specs.declared.met.Node.{Node}
 use Rattle.zl_explore.specs.declared.met.Slot.{Slot}
 use Rattle.zl_explore.proofs.Meeting.{live_here}
 use Rattle.zl_explore.proofs.met.Met.live_at.Goals as goal

@@ -1,4 +1,4 @@
-use Rattle.std.proofs.Common.{[], ◌<◌, ◌∙◌, ◌∷◌, ◌≡◌, ℕ, List, Some, ap, arith, length, refl, reverse, slice_get, subst, sym}
+use Rattle.std.proofs.Common.{[], ◌<◌, ◌∙◌, ◌∷◌, ◌≡◌, ℕ, List, ap, arith, length, reverse, subst, sym}
 use Rattle.std.proofs.lemmas.List.{reverse-append}
 use Rattle.zl_explore.specs.Nodes.{LeadsTo}
 use Rattle.zl_explore.proofs.Leading.{leads_more, leads_none}

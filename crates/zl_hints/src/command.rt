@@ -90,6 +90,14 @@ const WORLDS: Numbered = Numbered {
     most: 1_000_000_000,
 };
 
+const FROM: Numbered = Numbered {
+    command: "explore",
+    name: "--from",
+    letter: "D",
+    least: 0,
+    most: 1000,
+};
+
 /// What was met of the words behind a command with options.
 #[derive(Clone, Copy)]
 struct Met {
@@ -99,24 +107,32 @@ struct Met {
     has_limit: bool,
     has_burst: bool,
     has_worlds: bool,
+    has_from: bool,
+    has_part: bool,
     /// How often `--bad` was among them.
     bad: u32,
     /// Whether a word `--` was among them.
     are_files: bool,
     /// The option whose number is the next word.
     open: Option<Numbered>,
-    /// Whether the next word is what `--bad` takes.
-    is_bad_open: bool,
+    /// What is said if the next word isn't the one that `--bad` or `--part` takes.
+    wanted: Option<&'static str>,
 }
 
 const OPTIONS: [&str; 4] = ["--help", "--version", "-h", "-V"];
 
 const OPTIONS_OF_RUN: [&str; 4] = ["--workers", "--limit", "--burst", "--help"];
 
-const OPTIONS_OF_EXPLORE: [&str; 3] = ["--worlds", "--bad", "--help"];
+const OPTIONS_OF_EXPLORE: [&str; 5] = ["--worlds", "--bad", "--part", "--from", "--help"];
 
 /// How often `--bad` may stand.
 const MOST_BAD: u32 = 16;
+
+/// The words of `--bad` are missing.
+const NO_WORDS: &str = "--bad takes WORDS, one word as '* blocked', and has none";
+
+/// The word of `--part` is missing.
+const NO_PART: &str = "--part takes K/N, one word as 2/4, and has none";
 
 /// Adds which of the words, those behind the program's name, wasn't understood.
 pub fn explain_words<S: AsStr>(hint: &mut String, alloc: Global, words: &[S]) {
@@ -229,10 +245,12 @@ fn push_options<S: AsStr>(
         has_limit: false,
         has_burst: false,
         has_worlds: false,
+        has_from: false,
+        has_part: false,
         bad: 0,
         are_files: false,
         open: None,
-        is_bad_open: false,
+        wanted: None,
     };
     for word in words {
         if push_wrong_word(hint, alloc, &mut met, word.as_str())? {
@@ -254,9 +272,10 @@ fn push_wrong_word(
         return push_wrong_number(hint, option, word);
     }
     let is_option = word.len() > 1 && word.starts_with('-');
-    if mem::replace(&mut met.is_bad_open, false) {
+    if let Some(text) = met.wanted {
+        met.wanted = None;
         if is_option {
-            push_no_words(hint)?;
+            hint.push_str(text)?;
         }
         return Ok(is_option);
     }
@@ -284,18 +303,19 @@ fn push_wrong_option(
     met: &mut Met,
     word: &str,
 ) -> Result<bool, AllocError> {
-    for option in [WORKERS, LIMIT, BURST, WORLDS] {
-        if let Some(rest) = word.strip_prefix(option.name) {
-            let is_it = rest.is_empty() || rest.starts_with('=');
-            if is_it && option.command == met.command {
+    for option in [WORKERS, LIMIT, BURST, WORLDS, FROM] {
+        if let Some(rest) = behind_name(word, option.name) {
+            if option.command == met.command {
                 return push_wrong_use(hint, met, option, rest);
             }
         }
     }
-    if let Some(rest) = word.strip_prefix("--bad") {
-        let is_it = rest.is_empty() || rest.starts_with('=');
-        if is_it && met.command == "explore" {
+    if met.command == "explore" {
+        if let Some(rest) = behind_name(word, "--bad") {
             return push_wrong_bad(hint, met, rest);
+        }
+        if let Some(rest) = behind_name(word, "--part") {
+            return push_wrong_part(hint, met, rest);
         }
     }
     let word = word.as_bytes();
@@ -307,6 +327,14 @@ fn push_wrong_option(
         push_nearest(hint, alloc, word, &OPTIONS_OF_EXPLORE)?;
     }
     Ok(true)
+}
+
+/// What stands behind the name of the option, nothing or what begins with `=`, if the word is that option.
+fn behind_name<'a>(word: &'a str, name: &str) -> Option<&'a str> {
+    match word.strip_prefix(name) {
+        Some(rest) if rest.is_empty() || rest.starts_with('=') => Some(rest),
+        _ => None,
+    }
 }
 
 /// Adds what is wrong with an option, whose number may stand behind its name, if something is.
@@ -322,8 +350,10 @@ fn push_wrong_use(
         &mut met.has_limit
     } else if option.name == BURST.name {
         &mut met.has_burst
-    } else {
+    } else if option.name == WORLDS.name {
         &mut met.has_worlds
+    } else {
+        &mut met.has_from
     };
     if mem::replace(is_met, true) {
         push_text(hint, "# stands twice", &[Value::Name(option.name)])?;
@@ -339,7 +369,9 @@ fn push_wrong_use(
 /// Adds that `--bad`, whose words may stand behind its name, stands once too often, if it does.
 fn push_wrong_bad(hint: &mut String, met: &mut Met, rest: &str) -> Result<bool, AllocError> {
     met.bad = met.bad.saturating_add(1);
-    met.is_bad_open = rest.is_empty();
+    if rest.is_empty() {
+        met.wanted = Some(NO_WORDS);
+    }
     let is_wrong = met.bad > MOST_BAD;
     if is_wrong {
         let most = Value::Number(u64::from(MOST_BAD));
@@ -348,9 +380,16 @@ fn push_wrong_bad(hint: &mut String, met: &mut Met, rest: &str) -> Result<bool, 
     Ok(is_wrong)
 }
 
-/// Adds that the words of `--bad` are missing.
-fn push_no_words(hint: &mut String) -> Result<(), AllocError> {
-    hint.push_str("--bad takes WORDS, one word as '* blocked', and has none")
+/// Adds that `--part`, whose word may stand behind its name, stands twice, if it does.
+fn push_wrong_part(hint: &mut String, met: &mut Met, rest: &str) -> Result<bool, AllocError> {
+    if rest.is_empty() {
+        met.wanted = Some(NO_PART);
+    }
+    let is_second = mem::replace(&mut met.has_part, true);
+    if is_second {
+        hint.push_str("--part stands twice")?;
+    }
+    Ok(is_second)
 }
 
 /// Adds that the option doesn't take the word, if it doesn't.
@@ -385,15 +424,16 @@ fn push_missing(hint: &mut String, met: Met) -> Result<(), AllocError> {
         push_range(hint, option)?;
         return hint.push_str(", and has none");
     }
-    if met.is_bad_open {
-        return push_no_words(hint);
+    if let Some(text) = met.wanted {
+        return hint.push_str(text);
     }
     if !met.has_file {
         let text = "# takes one file, SCENARIO, and has none";
         return push_text(hint, text, &[Value::Name(met.command)]);
     }
     if met.command == "explore" {
-        return hint.push_str("explore takes SCENARIO [--worlds N] [--bad WORDS]..");
+        let text = "explore takes SCENARIO [--worlds N] [--bad WORDS].. [--part K/N] [--from D]";
+        return hint.push_str(text);
     }
     if met.has_workers && met.has_limit {
         return hint.push_str("run takes SCENARIO --workers N --limit M [--burst K]");

@@ -1,8 +1,9 @@
 -- The table of a process: its handles by their values, and what operations make of it.
-use Rattle.std.specs.Prelude.{◌≡◌, ℕ, ◌<◌, ◌≤◌, length, Option, Some, None, IfSome, IsTrue}
+use Rattle.std.specs.Prelude.{◌≡◌, ℕ, ◌<◌, ◌≤◌, ◌==◌, ◌&&◌, Bool, length, Option, Some, None, IfSome, IsTrue}
+use Rattle.std.specs.List.{list_any}
 use Rattle.std.specs.Ordering.{nat_cmp}
 use Rattle.std.specs.FinMap.Entries.{is_sorted}
-use Rattle.zl_rights.specs.Common.{Map, get, put, without, has_key}
+use Rattle.zl_rights.specs.Common.{Map, get, put, without, has_key, bits, within}
 use Rattle.zl_rights.specs.declared.entry.Entry.{Entry}
 use Rattle.zl_rights.specs.Values.{CAPACITY, Free, IsNormal, given_back, offered, taken}
 use Rattle.zl_table.specs.declared.table.InsertFault.{InsertFault}
@@ -21,6 +22,10 @@ pub record Handles : Type 0 where
 -- the table takes no handle more: it has the most
 abbrev pub IsFull : Handles → Type 0
 IsFull t = length t.entries ≡ CAPACITY
+
+-- one of these handles names the object, and has these rights at least
+abbrev pub has_named : Map Entry → (koid rights : ℕ) → Bool
+has_named entries koid rights = list_any (λ e. (e.1.koid == koid) && within rights (bits e.1.rights)) entries
 
 -- what is true of the handles of every table
 pub record IsTable (entries : Map Entry) : Type 0 where

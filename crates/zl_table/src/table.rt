@@ -6,12 +6,12 @@ ghost use Rattle.zl_rights.specs.LookUp.{looked_up};
 ghost use Rattle.std.specs.Vec.{vec_capacity};
 ghost use Rattle.zl_table.specs.Stored.{free_stored, handles_stored};
 ghost use Rattle.zl_rights.specs.Values.{CAPACITY, IsFree, given_back, new_free, offered, taken};
-ghost use Rattle.zl_table.specs.Table.{MOST_VALUE, IsFull, IsTable, Inserts, Removes, Undoes, TakesBack, refused_entry};
+ghost use Rattle.zl_table.specs.Table.{MOST_VALUE, IsFull, IsTable, Inserts, Removes, Undoes, TakesBack, has_named, refused_entry};
 
 use slab::Slab;
 use std::alloc::{AllocError, Global};
 use std::marker::Model;
-use zl_rights::{Entry, HValue, Kind, Rights, Status};
+use zl_rights::{Entry, HValue, Kind, Koid, Rights, Status};
 
 /// Why an insertion was refused. Each has the entry that was to go in.
 ///
@@ -159,6 +159,16 @@ impl Table {
             return Err(Status::AccessDenied);
         }
         Ok(entry)
+    }
+
+    /// Whether a handle names the object and has these rights at least. It looks at one handle after
+    /// another, and takes no memory.
+    ///
+    /// Source: own profile.
+    pub fn has_named(&self, koid: Koid, rights: Rights) -> bool
+        ensures { result ≡ has_named self.now.entries koid (bits rights) }
+    {
+        self.slots.iter().any(|(_, entry)| entry.koid == koid && rights.within(entry.rights))
     }
 
     /// Gives the entry a value that isn't live: the value freed last and not given since, or a fresh

@@ -1,5 +1,5 @@
 -- What the definitions see of the world of this crate.
-use Rattle.std.specs.Prelude.{ℕ, ◌≡◌, ◌<◌, Bool, length, slice_get, slice_index, List, [], ◌∷◌, map, Option, Some, None, if◌then◌else◌}
+use Rattle.std.specs.Prelude.{ℕ, ◌≡◌, ◌<◌, Bool, false, length, slice_get, slice_index, List, [], ◌∷◌, map, Option, Some, None, if◌then◌else◌}
 use Rattle.std.specs.Option.{option_map}
 use Rattle.zl_code.specs.Common.{Map, get, World, Process as ProcessValue, State as StateValue, Created, Ready, Blocked, Ended, Gone, is_ready, is_process, Library, site_of, Next, calls_at, next_for}
 use Rattle.zl_code.specs.declared.history.CallName.{CallName}
@@ -18,6 +18,7 @@ use Rattle.zl_rights.specs.Signals.{lives}
 use Rattle.zl_rights.specs.Values.{Free, new_free}
 use Rattle.zl_objects.specs.Objects.{Objects}
 use Rattle.zl_objects.specs.Seen.{object_entry}
+use Rattle.zl_table.specs.Table.{has_named}
 
 -- the programs, the world in which they run, and by process the values that new handles get
 pub record Machine : Type 0 where
@@ -128,6 +129,15 @@ pub record IsPlaceOf (processes : List Process) (pid place : ℕ) : Type 0 where
 -- what a trace tells of the process; a number that was never a process is gone
 abbrev pub state_in : Machine → ℕ → ProcState
 state_in m pid = seen_of (get m.world.processes pid)
+
+-- a handle of the process that was looked up names the object, and has these rights at least
+abbrev pub has_of : Option ProcessValue → (koid rights : ℕ) → Bool
+has_of None koid rights = false
+has_of (Some p) koid rights = has_named p.handles koid rights
+
+-- a handle of the process names the object, and has these rights at least; a number that was never a process has none
+abbrev pub has_in : World → (pid koid rights : ℕ) → Bool
+has_in w pid koid rights = has_of (get w.processes pid) koid rights
 
 -- what stands next for the process
 abbrev pub stands_next : Library → Process → Next

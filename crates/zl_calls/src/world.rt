@@ -3,6 +3,7 @@ ghost use Rattle.std.specs.Ordering.{nat_cmp};
 ghost use Rattle.std.specs.FinMap.Entries.{is_sorted};
 ghost use Rattle.std.specs.Option.{option_map};
 ghost use Rattle.zl_rights.specs.Map.{get};
+ghost use Rattle.zl_rights.specs.Numbers.{bits};
 ghost use Rattle.zl_code.specs.declared.boot.BootCause.TheVariants.{NoMemory};
 ghost use Rattle.zl_code.specs.Boot.{IsBoot, FirstFault, MOST_ITEMS};
 ghost use Rattle.zl_code.specs.OwnBoot.{own_boot};
@@ -10,7 +11,7 @@ ghost use Rattle.zl_code.specs.Headline.{IsSizedBoot};
 ghost use Rattle.zl_code.specs.Sound.{IsSound};
 ghost use Rattle.zl_code.specs.Starting.{program_of};
 ghost use Rattle.zl_code.specs.Steps.{Runs};
-ghost use Rattle.zl_calls.specs.World.{call_for, state_in, is_ready_in, own_here};
+ghost use Rattle.zl_calls.specs.World.{call_for, has_in, state_in, is_ready_in, own_here};
 ghost use Rattle.zl_calls.specs.Makes.{IsReached};
 ghost use Rattle.zl_calls.specs.Steps.{Performs, StepsTo, local_item, takes_memory};
 ghost use Rattle.zl_calls.specs.Own.{StepsOwn};
@@ -34,7 +35,7 @@ use std::marker::Model;
 use zl_code::{Boot, BootCause, BootFault, CallName, Image, Outcome, ProcState, TraceItem};
 use zl_interp::{Cpu, Done, Library, Spent, Turn};
 use zl_objects::Objects;
-use zl_rights::{Pid, Status};
+use zl_rights::{Koid, Pid, Rights, Status};
 
 /// The running world: its programs, every process ever made, and the objects.
 ///
@@ -220,6 +221,20 @@ impl World {
     {
         let place = self.parts.processes.place_of(pid)?;
         Some(&self.parts.processes.list[place].cpu)
+    }
+
+    /// Whether the process has a handle to the object with these rights at least, whatever it is
+    /// in; a number that was never a process has none. It takes no memory.
+    ///
+    /// Source: own profile.
+    pub fn has(&self, pid: Pid, koid: Koid, rights: Rights) -> bool
+        ensures { result ≡ has_in self.now.world pid koid (bits rights) }
+    {
+        let Some(place) = self.parts.processes.place_of(pid) else {
+            return false;
+        };
+        let process = &self.parts.processes.list[place];
+        process.table.has_named(koid, rights)
     }
 
     /// The image that the process runs; nothing for a number that was never a process.

@@ -1,8 +1,8 @@
 -- What a search keeps as it goes on, and what follows of all orders once it is whole.
 use Rattle.zl_code.proofs.Common.{Bool, IfNone, IfSome, IsTrue, List, None, Option, Some, [], ap, false}
-use Rattle.zl_code.proofs.Common.{false≢true, is_some, length, length-append, refl, subst, sym, true, ℕ, ◌++◌}
+use Rattle.zl_code.proofs.Common.{false≢true, is_some, length, length-append, map, refl, subst, sym, ℕ, ◌++◌}
 use Rattle.zl_code.proofs.Common.{◌+◌, ◌<◌, ◌∙◌, ◌∷◌, ◌≡◌, ◌≤◌}
-use Rattle.std.proofs.Common.{arith, slice_get, ◌-◌}
+use Rattle.std.proofs.Common.{arith, slice_get}
 use Rattle.std.proofs.lemmas.Bool.{cases_lt}
 use Rattle.std.proofs.lemmas.Option.{none-some, same_Some, slice_get_within}
 use mathlib.Core.Logic.{inl, inr}
@@ -10,7 +10,7 @@ use Rattle.zl_code.specs.declared.history.TraceItem.{TraceItem}
 use Rattle.zl_calls.specs.World.{Machine, own_here}
 use Rattle.zl_explore.specs.Bad.{Fits}
 use Rattle.zl_explore.specs.GoingAhead.{Takes, most_ahead, reduced, start_of}
-use Rattle.zl_explore.specs.Kept.{AreTold, Goes, IsBadOrMemory, IsEndAt, IsEndOf, IsWhole, Moves, goes_of, next_of, search_of, states_of, tells_of, told_of}
+use Rattle.zl_explore.specs.Kept.{AreTold, Goes, IsBadOrMemory, IsEndAt, IsEndOf, IsWhole, SeesNext, doubling_at, goes_of, never_of, next_of, search_of, sights_of, states_of, tells_of, told_of}
 use Rattle.zl_explore.specs.Edges.{AreEdges, Comes, HaveEdges}
 use Rattle.zl_explore.specs.Marks.{AllCome, AreWithin, IsEndlessPlace}
 use Rattle.zl_explore.specs.Nodes.{AreWidened, Extends, IsTree, IsWidened, LeadsTo}
@@ -21,10 +21,12 @@ use Rattle.zl_explore.specs.Paths.{IsIn, IsPath, IsReached, after}
 use Rattle.zl_explore.specs.Private.{IsLocal, IsStill, RestsStill}
 use Rattle.zl_explore.specs.Quiet.{AreQuiet, IsBadTurnAt}
 use Rattle.zl_explore.specs.Running.{ready_of, rested_machine, told_at, turned}
+use Rattle.zl_explore.specs.Sights.{AreClear, AreSeen, IsBadWorld, Sees}
 use Rattle.zl_explore.specs.Searching.{BeganWith, IsBadOrder, IsEnd, IsKnown, Search, States}
-use Rattle.zl_explore.specs.Telling.{Leads, Lessens, TellsAll, TellsEndless, TellsNone, TellsPart}
+use Rattle.zl_explore.specs.Telling.{Leads, TellsAll, TellsClear, TellsEndless, TellsNone, TellsPart}
 use Rattle.zl_explore.specs.declared.bad.Bad.{Bad}
 use Rattle.zl_explore.specs.declared.ends.BadTurn.{BadTurn}
+use Rattle.zl_explore.specs.declared.ends.BadWorld.{BadWorld}
 use Rattle.zl_explore.specs.declared.ends.End.{End}
 use Rattle.zl_explore.specs.declared.ends.Next.{Next}
 use Rattle.zl_explore.specs.declared.ends.Next.TheVariants as next
@@ -37,11 +39,12 @@ use Rattle.zl_explore.proofs.Edging.{have_end, have_grown}
 use Rattle.zl_explore.proofs.Ending.{Ends, edges_within, ends_comes, node_reached}
 use Rattle.zl_explore.proofs.Endless.{ends_reduced}
 use Rattle.zl_explore.proofs.Hearing.{quiet_end, quiet_grown}
-use Rattle.zl_explore.proofs.Machines.{is_bad, is_end, is_endless}
-use Rattle.zl_explore.proofs.Parts.{after_part, all_of, come_on, ends_in_part, nobody_down, none_of, path_down, ready_down}
+use Rattle.zl_explore.proofs.Machines.{is_bad, is_bad_world, is_end, is_endless}
+use Rattle.zl_explore.proofs.Parts.{after_part, all_of, clear_of, come_on, ends_in_part, nobody_down, none_of, path_down, ready_down}
 use Rattle.zl_explore.proofs.Private.{local_reduced, local_start, local_turns, rests_start}
 use Rattle.zl_explore.proofs.Reduced.{good_too, reached_too}
-use Rattle.zl_explore.proofs.Whole.{only_all, only_come, only_none}
+use Rattle.zl_explore.proofs.Seeing.{clear_grown, clear_next}
+use Rattle.zl_explore.proofs.Whole.{only_all, only_clear, only_come, only_none}
 
 -- ---- the ends that were told
 
@@ -112,9 +115,21 @@ module _ (m root : Machine) (part : Part) (nodes : List (Node (Parted Machine)))
   end_leads : ready_of n.at.at ≡ [] → IsEnd m.programs (own_here m) taken (told_in (own_here n.at.at))
   end_leads = is_end m n.at.at taken still.order path comes
 
+  pub world_leads : (together : List Bad) → AreSeen together (sights_of n.at.at) → IsBadWorld m.programs (own_here m) taken together
+  world_leads together = is_bad_world m n.at.at taken still.order path comes together
+
   bad_leads : (p : ℕ) (b : Bad) (x : TraceItem) → IsIn (goes_of n.at) p → told_at n.at.at p ≡ Some x → Fits b x
       → IsBadOrder m.programs (own_here m) (taken ++ (p ∷ [])) b
   bad_leads p b x is_in = is_bad m n.at.at taken still.order path comes p b x (ready_down ready_of reduced n.at p is_in)
+
+-- what is seen in the next world
+pub sees_at : (k : Kept) (found : Option (List Bad)) (n : Node (Parted Machine)) → slice_get k.nodes.items k.widened ≡ Some n → SeesNext k found
+    → Sees (never_of k) (sights_of n.at.at) found
+sees_at k found n there sees = subst (λ (at : Option (Node (Parted Machine))). IfSome at (λ m. Sees (never_of k) (sights_of m.at.at) found)) there sees
+
+pub sees_by : (k : Kept) (found : Option (List Bad)) (n : Node (Parted Machine)) → slice_get k.nodes.items k.widened ≡ Some n
+    → Sees (never_of k) (sights_of n.at.at) found → SeesNext k found
+sees_by k found n there sees = subst (λ (at : Option (Node (Parted Machine))). IfSome at (λ m. Sees (never_of k) (sights_of m.at.at) found)) (sym there) sees
 
 -- ---- what is kept
 
@@ -130,11 +145,12 @@ whole_one k root rests items starts none no_edges = record {
   edges = λ edge (i, there). absurd (none-some edge (subst (λ (xs : List (ℕ × ℕ)). slice_get xs i ≡ Some edge) no_edges there));
   have_edges = λ i n p below. absurd (omega (arith, below, none));
   quiet = λ i n p below. absurd (omega (arith, below, none));
+  clear = λ i n below. absurd (omega (arith, below, none));
   within = omega (arith, none);
 }
 
 module _ (old new : Kept) (whole : IsWhole old) (root : new.root ≡ old.root) (part : new.part ≡ old.part)
-    (bad : new.bad ≡ old.bad)
+    (never : new.never ≡ old.never)
     (tree : (start : Parted Machine) → IsTree goes_of next_of start old.nodes.items → IsTree goes_of next_of start new.nodes.items)
     (edges : AreEdges goes_of next_of old.nodes.items old.course.edges.items → AreEdges goes_of next_of new.nodes.items new.course.edges.items)
     (longer : Extends old.course.edges.items new.course.edges.items) where
@@ -148,18 +164,21 @@ module _ (old new : Kept) (whole : IsWhole old) (root : new.root ≡ old.root) (
     edges = edges whole.edges;
     have_edges = rw same (have_grown goes_of next_of old.nodes.items new.nodes.items old.course.edges.items new.course.edges.items old.widened extends
         longer whole.within whole.have_edges);
-    quiet = rw (same, bad) (quiet_grown goes_of tells_of old.bad.items old.nodes.items new.nodes.items old.widened extends whole.within whole.quiet);
+    quiet = rw (same, never) (quiet_grown goes_of tells_of old.never.bad.items old.nodes.items new.nodes.items old.widened extends whole.within whole.quiet);
+    clear = rw (same, never) (clear_grown sights_of (never_of old) old.nodes.items new.nodes.items old.widened extends whole.within whole.clear);
     within = omega (arith, same, whole.within, ap length extends.1, length-append old.nodes.items extends.0);
   }
 
   -- all turns from one more were taken, in which somebody is ready
   pub whole_widened : Extends old.nodes.items new.nodes.items → told_of new ≡ told_of old → new.widened ≡ old.widened + 1
       → (AreWidened goes_of next_of old.nodes.items old.widened → AreWidened goes_of next_of new.nodes.items (old.widened + 1))
-      → (AreQuiet goes_of tells_of old.bad.items old.nodes.items old.widened → AreQuiet goes_of tells_of old.bad.items new.nodes.items (old.widened + 1))
+      → (AreQuiet goes_of tells_of old.never.bad.items old.nodes.items old.widened
+      → AreQuiet goes_of tells_of old.never.bad.items new.nodes.items (old.widened + 1))
       → (HaveEdges goes_of next_of old.nodes.items old.course.edges.items old.widened
       → HaveEdges goes_of next_of new.nodes.items new.course.edges.items (old.widened + 1))
+      → SeesNext old None
       → (n : Node (Parted Machine)) → slice_get old.nodes.items old.widened ≡ Some n → (goes_of n.at ≡ [] → ⊥) → IsWhole new
-  whole_widened extends told same taken heard had n there some =
+  whole_widened extends told same taken heard had sees n there some =
       let within : old.widened < length old.nodes.items = slice_get_within old.nodes.items old.widened n there in
       let there_new : slice_get new.nodes.items old.widened ≡ Some n =
       subst (λ x. slice_get x old.widened ≡ Some n) (sym extends.1) (get_left old.nodes.items extends.0 old.widened n there) in record {
@@ -171,17 +190,19 @@ module _ (old new : Kept) (whole : IsWhole old) (root : new.root ≡ old.root) (
             (λ m at nobody of. absurd (some ((λ i. goes_of (same_Some n m (sym there_new ∙ at) i).at) ∙ nobody))));
         edges = edges whole.edges;
         have_edges = rw same (had whole.have_edges);
-        quiet = rw (same, bad) (heard whole.quiet);
+        quiet = rw (same, never) (heard whole.quiet);
+        clear = rw (same, never) (clear_next sights_of (never_of old) new.nodes.items old.widened n there_new (sees_at old None n there sees)
+            (clear_grown sights_of (never_of old) old.nodes.items new.nodes.items old.widened extends whole.within whole.clear));
         within = omega (arith, same, within, ap length extends.1, length-append old.nodes.items extends.0);
       }
 
 -- from one more nobody goes on, and where it is an end, its states were told
-pub whole_ended : (old new : Kept) → IsWhole old → new.root ≡ old.root → new.part ≡ old.part → new.bad ≡ old.bad → new.nodes.items ≡ old.nodes.items
-    → new.course ≡ old.course → new.widened ≡ old.widened + 1
+pub whole_ended : (old new : Kept) → IsWhole old → new.root ≡ old.root → new.part ≡ old.part → new.never ≡ old.never
+    → new.nodes.items ≡ old.nodes.items → new.course ≡ old.course → new.widened ≡ old.widened + 1
     → (end : IsEndAt old.nodes.items old.widened)
     → AreTold old.nodes.items old.widened (told_of new)
-    → (IsTrue (is_of end.node.at.part end.node.at.gone) → IsIn (told_of new) (states_of end.node.at.at)) → IsWhole new
-whole_ended old new whole root part bad nodes course same end told inside = record {
+    → (IsTrue (is_of end.node.at.part end.node.at.gone) → IsIn (told_of new) (states_of end.node.at.at)) → SeesNext old None → IsWhole new
+whole_ended old new whole root part never nodes course same end told inside sees = record {
   rests = rw root whole.rests;
   tree = rw (root, part, nodes) whole.tree;
   widened = rw (nodes, same) (widened_end old.nodes.items old.widened end whole.widened);
@@ -191,7 +212,9 @@ whole_ended old new whole root part bad nodes course same end told inside = reco
   edges = rw (nodes, course) whole.edges;
   have_edges = rw (nodes, course, same) (have_end goes_of next_of old.nodes.items old.course.edges.items old.widened end.node end.there end.nobody
       whole.have_edges);
-  quiet = rw (nodes, same, bad) (quiet_end goes_of tells_of old.bad.items old.nodes.items old.widened end.node end.there end.nobody whole.quiet);
+  quiet = rw (nodes, same, never) (quiet_end goes_of tells_of old.never.bad.items old.nodes.items old.widened end.node end.there end.nobody whole.quiet);
+  clear = rw (nodes, same, never) (clear_next sights_of (never_of old) old.nodes.items old.widened end.node end.there
+      (sees_at old None end.node end.there sees) whole.clear);
   within = omega (arith, same, ap length nodes, slice_get_within old.nodes.items old.widened end.node end.there);
 }
 
@@ -213,13 +236,13 @@ end_states nodes place end found are =
 pub end_told : (old new : Kept) → IsWhole old → (end : IsEndAt old.nodes.items old.widened) (e : End) (turns : List ℕ)
     → IsEndOf (Some e.states.items) end.node.at → LeadsTo goes_of next_of old.nodes.items 0 old.widened turns
     → Takes old.root [] e.turns.items (after ready_of reduced (start_of old.root) turns) → new.root ≡ old.root
-    → new.part ≡ old.part → new.bad ≡ old.bad → new.nodes ≡ old.nodes
+    → new.part ≡ old.part → new.never ≡ old.never → SeesNext old None → new.nodes ≡ old.nodes
     → new.course ≡ old.course → new.widened ≡ old.widened + 1 → new.most ≡ old.most → told_of new ≡ told_of old ++ (e.states.items ∷ []) → Goes old
     (Some (next.End e)) new
-end_told old new whole end e turns is leads takes root part bad nodes course widened most told = record {
-  whole = whole_ended old new whole root part bad (λ i. (nodes i).items) course widened end
+end_told old new whole end e turns is leads takes root part never sees nodes course widened most told = record {
+  whole = whole_ended old new whole root part never (λ i. (nodes i).items) course widened end
       (subst (AreTold old.nodes.items old.widened) (sym told) (told_more old.nodes.items old.widened (told_of old) whole.told e.states.items))
-      (λ of. rw told (subst (λ s. IsIn (told_of old ++ (e.states.items ∷ [])) s) is.1 (told_last (told_of old) e.states.items)));
+      (λ of. rw told (subst (λ s. IsIn (told_of old ++ (e.states.items ∷ [])) s) is.1 (told_last (told_of old) e.states.items))) sees;
   root = root;
   part = part;
   told = told;
@@ -230,51 +253,80 @@ end_told old new whole end e turns is leads takes root part bad nodes course wid
   moves = widened;
   most = most;
   cut = tt;
-  bad = bad;
+  never = never;
 }
 
 -- an item that may not be
-pub bad_told : (k : Kept) → IsWhole k → (pid : ℕ) (one : Bad) → (at : IsBadTurnAt goes_of tells_of k.bad.items k.nodes.items k.widened pid one)
+pub bad_told : (k : Kept) → IsWhole k → (pid : ℕ) (one : Bad) → (at : IsBadTurnAt goes_of tells_of k.never.bad.items k.nodes.items k.widened pid one)
     → (turns taken : List ℕ) → LeadsTo goes_of next_of k.nodes.items 0 k.widened turns → Takes k.root [] taken (after ready_of reduced (start_of
     k.root) turns)
     → (b : BadTurn) → b.turns.items ≡ taken ++ (pid ∷ []) → b.bad ≡ one → Leads (Some (next.Bad b)) (search_of k)
 bad_told k whole pid one at turns taken leads takes b items same = record {
-  is_in = subst (λ (x : Bad). IsIn k.bad.items x) (sym same) at.names.is_in;
+  is_in = subst (λ (x : Bad). IsIn k.never.bad.items x) (sym same) at.names.is_in;
   leads = λ m still began. subst (λ (t : List ℕ). IsBadOrder m.programs (own_here m) t b.bad) (sym items)
       (subst (λ (x : Bad). IsBadOrder m.programs (own_here m) (taken ++ (pid ∷ [])) x) (sym same)
       (bad_leads m k.root k.part k.nodes.items k.widened at.node at.there turns taken whole.tree leads takes began still pid one at.names.told_item
       at.is_ready at.names.is_told at.names.fits));
 }
 
+-- a world that may not be
+pub world_told : (k : Kept) → IsWhole k → (b : BadWorld) → SeesNext k (Some b.together.items) → (n : Node (Parted Machine))
+    → slice_get k.nodes.items k.widened ≡ Some n → (turns : List ℕ) → LeadsTo goes_of next_of k.nodes.items 0 k.widened turns
+    → Takes k.root [] b.turns.items (after ready_of reduced (start_of k.root) turns) → Leads (Some (next.BadWorld b)) (search_of k)
+world_told k whole b sees n there turns leads takes =
+    let seen = sees_at k (Some b.together.items) n there sees in record {
+      is_in = seen.0;
+      leads = λ m still began.
+          world_leads m k.root k.part k.nodes.items k.widened n there turns b.turns.items whole.tree leads takes began still b.together.items seen.1;
+    }
+
 -- where the search began tells to what an end belongs
-pub leads_from : (n : Option Next) (s s2 : Search) → s2.root ≡ s.root → s2.bad ≡ s.bad → Leads n s2 → Leads n s
-leads_from None s s2 root bad leads = tt
-leads_from (Some (next.End e)) s s2 root bad leads = λ m still began. leads m still (root ∙ began)
-leads_from (Some (next.Bad b)) s s2 root bad leads = record {
+pub leads_from : (n : Option Next) (s s2 : Search) → s2.root ≡ s.root → s2.bad ≡ s.bad → s2.never ≡ s.never → Leads n s2 → Leads n s
+leads_from None s s2 root bad never leads = tt
+leads_from (Some (next.End e)) s s2 root bad never leads = λ m still began. leads m still (root ∙ began)
+leads_from (Some (next.Bad b)) s s2 root bad never leads = record {
   is_in = subst (λ (xs : List Bad). IsIn xs b.bad) bad leads.is_in;
   leads = λ m still began. leads.leads m still (root ∙ began);
 }
-leads_from (Some (next.All endless)) s s2 root bad leads = tt
-leads_from (Some next.Doubled) s s2 root bad leads = tt
-leads_from (Some next.Cut) s s2 root bad leads = tt
-leads_from (Some next.Memory) s s2 root bad leads = tt
+leads_from (Some (next.BadWorld b)) s s2 root bad never leads = record {
+  is_in = subst (λ (xs : List (List Bad)). IsIn xs b.together.items) never leads.is_in;
+  leads = λ m still began. leads.leads m still (root ∙ began);
+}
+leads_from (Some (next.All endless)) s s2 root bad never leads = tt
+leads_from (Some next.Doubled) s s2 root bad never leads = tt
+leads_from (Some next.Cut) s s2 root bad never leads = tt
+leads_from (Some next.Memory) s s2 root bad never leads = tt
 
--- the search stops at an item that may not be, or as it wants memory
+pub lists_same : (old new : Kept) → new.never ≡ old.never → never_of new ≡ never_of old
+lists_same old new never i = map (λ together. together.items) (never i).together.items
+
+-- the search stops at an item or a world that may not be, or as it wants memory
 pub bad_goes : (old new : Kept) (n : Next) → IsBadOrMemory n → IsWhole new → new.root ≡ old.root → new.part ≡ old.part
     → told_of new ≡ told_of old → new.most ≡ old.most
-    → new.bad ≡ old.bad → Leads (Some n) (search_of new) → Goes old (Some n) new
-bad_goes old new (next.Bad b) which whole root part told most bad leads = record {
+    → new.never ≡ old.never → Leads (Some n) (search_of new) → Goes old (Some n) new
+bad_goes old new (next.Bad b) which whole root part told most never leads = record {
   whole = whole;
   root = root;
   part = part;
   told = told;
-  leads = leads_from (Some (next.Bad b)) (search_of old) (search_of new) root (λ i. (bad i).items) leads;
+  leads = leads_from (Some (next.Bad b)) (search_of old) (search_of new) root (λ i. (never i).bad.items) (lists_same old new never) leads;
   moves = tt;
   most = most;
   cut = tt;
-  bad = bad;
+  never = never;
 }
-bad_goes old new next.Memory which whole root part told most bad leads = record {
+bad_goes old new (next.BadWorld b) which whole root part told most never leads = record {
+  whole = whole;
+  root = root;
+  part = part;
+  told = told;
+  leads = leads_from (Some (next.BadWorld b)) (search_of old) (search_of new) root (λ i. (never i).bad.items) (lists_same old new never) leads;
+  moves = tt;
+  most = most;
+  cut = tt;
+  never = never;
+}
+bad_goes old new next.Memory which whole root part told most never leads = record {
   whole = whole;
   root = root;
   part = part;
@@ -283,53 +335,51 @@ bad_goes old new next.Memory which whole root part told most bad leads = record 
   moves = tt;
   most = most;
   cut = tt;
-  bad = bad;
+  never = never;
 }
-bad_goes old new (next.End e) which whole root part told most bad leads = absurd which
-bad_goes old new (next.All endless) which whole root part told most bad leads = absurd which
-bad_goes old new next.Doubled which whole root part told most bad leads = absurd which
-bad_goes old new next.Cut which whole root part told most bad leads = absurd which
+bad_goes old new (next.End e) which whole root part told most never leads = absurd which
+bad_goes old new (next.All endless) which whole root part told most never leads = absurd which
+bad_goes old new next.Doubled which whole root part told most never leads = absurd which
+bad_goes old new next.Cut which whole root part told most never leads = absurd which
 
-pub lessens : (n : Next) (most first at last : ℕ) → Moves (Some n) at last → first ≤ at → at < most → Lessens n (most - first) (most - last)
-lessens (next.End e) most first at last moved behind below = omega (arith, moved, behind, below)
-lessens (next.Bad b) most first at last moved behind below = tt
-lessens (next.All endless) most first at last moved behind below = tt
-lessens next.Doubled most first at last moved behind below = absurd moved
-lessens next.Cut most first at last moved behind below = tt
-lessens next.Memory most first at last moved behind below = tt
+-- when it says next that worlds have doubled tells nothing of them
+pub whole_doubling : (k : Kept) (worlds : ℕ) → IsWhole k → IsWhole (doubling_at k worlds)
+whole_doubling k worlds whole = record {
+  rests = whole.rests;
+  tree = whole.tree;
+  widened = whole.widened;
+  told = whole.told;
+  edges = whole.edges;
+  have_edges = whole.have_edges;
+  quiet = whole.quiet;
+  clear = whole.clear;
+  within = whole.within;
+}
 
-pub not_known_yet : (n : Next) (s : Search) (at last : ℕ) → Moves (Some n) at last → TellsPart n s
-not_known_yet (next.End e) s at last moved = tt
-not_known_yet (next.Bad b) s at last moved = tt
-not_known_yet (next.All endless) s at last moved = absurd moved
-not_known_yet next.Doubled s at last moved = tt
-not_known_yet next.Cut s at last moved = tt
-not_known_yet next.Memory s at last moved = tt
-
-pub not_all_yet : (n : Next) (s : Search) (at last : ℕ) → Moves (Some n) at last → TellsAll n s
-not_all_yet (next.End e) s at last moved = tt
-not_all_yet (next.Bad b) s at last moved = tt
-not_all_yet (next.All endless) s at last moved = absurd moved
-not_all_yet next.Doubled s at last moved = tt
-not_all_yet next.Cut s at last moved = tt
-not_all_yet next.Memory s at last moved = tt
-
-pub not_none_yet : (n : Next) (s : Search) (at last : ℕ) → Moves (Some n) at last → TellsNone n s
-not_none_yet (next.End e) s at last moved = tt
-not_none_yet (next.Bad b) s at last moved = tt
-not_none_yet (next.All endless) s at last moved = absurd moved
-not_none_yet next.Doubled s at last moved = tt
-not_none_yet next.Cut s at last moved = tt
-not_none_yet next.Memory s at last moved = tt
-
-pub not_endless_yet : (n : Next) (s : Search) (at last : ℕ) → Moves (Some n) at last → TellsEndless n s
-not_endless_yet (next.End e) s at last moved = tt
-not_endless_yet (next.Bad b) s at last moved = tt
-not_endless_yet (next.All true) s at last moved = absurd moved
-not_endless_yet (next.All false) s at last moved = absurd moved
-not_endless_yet next.Doubled s at last moved = tt
-not_endless_yet next.Cut s at last moved = tt
-not_endless_yet next.Memory s at last moved = tt
+-- nothing changes where memory is refused as an end is kept
+pub memory_goes : (old new : Kept) → IsWhole old → new.root ≡ old.root → new.part ≡ old.part → new.never ≡ old.never → new.nodes ≡ old.nodes
+    → new.course ≡ old.course → new.widened ≡ old.widened → new.most ≡ old.most → told_of new ≡ told_of old → Goes old (Some next.Memory) new
+memory_goes old new whole root part never nodes course widened most told = record {
+  whole = record {
+    rests = rw root whole.rests;
+    tree = rw (root, part, nodes) whole.tree;
+    widened = rw (nodes, widened) whole.widened;
+    told = rw (nodes, widened, told) whole.told;
+    edges = rw (nodes, course) whole.edges;
+    have_edges = rw (nodes, course, widened) whole.have_edges;
+    quiet = rw (nodes, widened, never) whole.quiet;
+    clear = rw (nodes, widened, never) whole.clear;
+    within = rw (nodes, widened) whole.within;
+  };
+  root = root;
+  part = part;
+  told = told;
+  leads = tt;
+  moves = tt;
+  most = most;
+  cut = tt;
+  never = never;
+}
 
 -- where all worlds were gone on from, that is known of the orders of the part
 module _ (k : Kept) (whole : IsWhole k) (enough : length k.nodes.items ≤ k.widened) where
@@ -350,12 +400,14 @@ module _ (k : Kept) (whole : IsWhole k) (enough : length k.nodes.items ≤ k.wid
     tree_here = subst (λ s. IsTree goes_of next_of (parted k.part (start_of s)) k.nodes.items) began whole.tree
 
     known_by : (endless : Bool) → (endless ≡ false → AllCome k.course.edges.items (length k.nodes.items))
-        → IsKnown m k.part (told_of k) k.bad.items endless
+        → IsKnown m k.part (told_of k) k.never.bad.items (never_of k) endless
     known_by endless come = record {
       all = all_of ready_of reduced k.part (start_of (rested_machine m)) k.nodes.items tree_here all_widened states_of (told_of k)
           (subst (λ (n : ℕ). AreTold k.nodes.items n (told_of k)) same_count whole.told);
-      none = none_of ready_of reduced k.part (start_of (rested_machine m)) k.nodes.items tree_here all_widened told_at k.bad.items
-          (subst (λ (n : ℕ). AreQuiet goes_of tells_of k.bad.items k.nodes.items n) same_count whole.quiet);
+      none = none_of ready_of reduced k.part (start_of (rested_machine m)) k.nodes.items tree_here all_widened told_at k.never.bad.items
+          (subst (λ (n : ℕ). AreQuiet goes_of tells_of k.never.bad.items k.nodes.items n) same_count whole.quiet);
+      clear = clear_of ready_of reduced k.part (start_of (rested_machine m)) k.nodes.items tree_here all_widened sights_of (never_of k)
+          (subst (λ (n : ℕ). AreClear sights_of (never_of k) k.nodes.items n) same_count whole.clear);
       come = λ none. come_on ready_of reduced k.part (start_of (rested_machine m)) k.nodes.items tree_here all_widened k.course.edges.items whole.edges
           all_have (come none);
     }
@@ -395,10 +447,14 @@ module _ (k : Kept) (whole : IsWhole k) (enough : length k.nodes.items ≤ k.wid
     known_here = λ m still began. known_by m still began (is_some found) (all_come found refl)
 
     pub all_here : TellsAll (next.All (is_some found)) (search_of k)
-    all_here = λ only m still began. only_all m still k.part only (told_of k) k.bad.items (is_some found) (known_here m still began)
+    all_here = λ only m still began. only_all m still k.part only (told_of k) k.never.bad.items (never_of k) (is_some found) (known_here m still began)
 
     pub none_here : TellsNone (next.All (is_some found)) (search_of k)
-    none_here = λ only m still began. only_none m still k.part only (told_of k) k.bad.items (is_some found) (known_here m still began)
+    none_here = λ only m still began. only_none m still k.part only (told_of k) k.never.bad.items (never_of k) (is_some found) (known_here m still began)
+
+    pub clear_here : TellsClear (next.All (is_some found)) (search_of k)
+    clear_here = λ only m still began.
+        only_clear m still k.part only (told_of k) k.never.bad.items (never_of k) (is_some found) (known_here m still began)
 
     endless_by : (at : Option ℕ) → found ≡ at → TellsEndless (next.All (is_some found)) (search_of k)
     endless_by (Some place) is = rw is (λ m still began.
@@ -407,7 +463,7 @@ module _ (k : Kept) (whole : IsWhole k) (enough : length k.nodes.items ≤ k.wid
         let (n, there) = there_is k.nodes.items place at.0 in
         let own = own_reached m still began place n there in
         is_endless m n.at.at own.turns still.order own.is_path own.leads (λ ends. at.1 (comes_by m still began place n there ends)))
-    endless_by None is = rw is (λ only m still began. only_come m still k.part only (told_of k) k.bad.items false
+    endless_by None is = rw is (λ only m still began. only_come m still k.part only (told_of k) k.never.bad.items (never_of k) false
         (known_by m still began false (λ off. all_come None is (ap is_some is))) refl)
 
     pub endless_here : TellsEndless (next.All (is_some found)) (search_of k)

@@ -1,5 +1,6 @@
 pub mod Lists
 pub mod Filtered
+pub mod TogetherWords
 pub mod ReadyProcess
 pub mod Growing
 pub mod Leading
@@ -19,6 +20,7 @@ pub mod BesideSteps
 pub mod Resting
 pub mod Ordered
 pub mod Turns
+pub mod Seeing
 pub mod Machines
 pub mod Steps
 pub mod ToldStates
@@ -33,4 +35,5 @@ pub mod Advanced
 pub mod GoingAhead
 pub mod Bursts
 pub mod Whole
+pub mod NotYet
 pub mod Keeping

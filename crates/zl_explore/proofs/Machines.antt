@@ -11,9 +11,11 @@ use Rattle.zl_explore.specs.Orders.{OwnTurns, next_in, ready_in, told_in}
 use Rattle.zl_explore.specs.Paths.{IsIn, IsPath, after}
 use Rattle.zl_explore.specs.Running.{ready_of, rested_machine, told_at, turned}
 use Rattle.zl_explore.specs.Searching.{CanEnd, IsBadOrder, IsEnd, IsEndless}
+use Rattle.zl_explore.specs.Sights.{AreSeen, IsBadWorld, sights_in}
 use Rattle.zl_explore.specs.declared.bad.Bad.{Bad}
 use Rattle.zl_explore.proofs.Ending.{Ends}
 use Rattle.zl_explore.proofs.Resting.{ordered_behind, rested_steps}
+use Rattle.zl_explore.proofs.Seeing.{sights_same}
 use Rattle.zl_explore.proofs.Turns.{ready_same, told_same, turns_are, turns_rest}
 
 path_own : (turns : List ℕ) (m : Machine) → IsPath ready_of turned m turns → IsPath ready_in (next_in m.programs) (own_here m) turns
@@ -83,6 +85,14 @@ module _ (m at : Machine) (turns : List ℕ) (ordered : IsOrdered m.world) (path
     leads = are.1;
     nobody = sym (ready_same are.0) ∙ (ap ready_in (sym is) ∙ nobody);
     is = ap told_in is ∙ told_same are.0;
+  }
+
+  -- what is seen there, is seen in a world to which they lead by own steps
+  pub is_bad_world : (together : List Bad) → AreSeen together (sights_in (own_here at)) → IsBadWorld m.programs (own_here m) turns together
+  is_bad_world together seen = record {
+    last = are.0;
+    leads = are.1;
+    seen = subst (AreSeen together) (ap sights_in is ∙ sights_same are.0) seen;
   }
 
   -- where they lead to one that comes to no end, own steps do

@@ -12,11 +12,14 @@ use Rattle.zl_explore.specs.Private.{IsLocal, IsStill, RestsStill, Tells}
 use Rattle.zl_explore.specs.Reduced.{Ahead, IsReduced}
 use Rattle.zl_explore.specs.Running.{ready_of, rested_machine, turned}
 use Rattle.zl_explore.specs.Searching.{CanEnd}
+use Rattle.zl_explore.specs.Sights.{AreSeen, sights_in}
+use Rattle.zl_explore.specs.declared.bad.Bad.{Bad}
 use Rattle.zl_explore.proofs.Ending.{Ends}
 use Rattle.zl_explore.proofs.Endless.{endless_met}
 use Rattle.zl_explore.proofs.Machines.{ends_own}
-use Rattle.zl_explore.proofs.Private.{local_turns, rested_step, rests_behind, rests_start, steps_in, tells_still}
+use Rattle.zl_explore.proofs.Private.{local_turns, rested_step, rests_behind, rests_start, sights_still, steps_in, tells_still}
 use Rattle.zl_explore.proofs.Reduced.{meets}
+use Rattle.zl_explore.proofs.Seeing.{sights_same}
 use Rattle.zl_explore.proofs.Turns.{ready_same}
 
 -- own turns are turns of what counts, and what is true where they lead
@@ -57,6 +60,15 @@ module _ (m : Machine) (still : IsStill (own_here m)) (reduced : Machine → ℕ
     where
       none : (u : Machine) → IsStill o → u.programs ≡ m.programs → own_here u ≡ own_rested o → Ends ready_of turned u → ⊥
       none u still_o programs here ends = never (subst (λ lib. CanEnd lib o) programs (ends_own u o still_o.order here ends))
+
+  -- what is seen where it leads, is seen in a state that was met
+  pub seen_met : (together : List Bad) → AreSeen together (sights_in o) → (u : Machine) × met u × AreSeen together (sights_in (own_here u))
+  seen_met together seen =
+      let along = own_along m.programs (λ u. AreSeen together (sights_in (own_here u))) o
+      (λ u still_o programs is. subst (AreSeen together) (sym (ap sights_in is ∙ sights_same o)) seen) turns (rested_machine m) (rests_start m still) refl
+      leads in
+      meets ready_of turned RestsStill IsLocal local_turns reduced is_reduced (rested_machine m) t (rests_start m still) begins met closed is_met
+      (λ u. AreSeen together (sights_in (own_here u))) (sights_still together) turns along.0 along.1
 
   -- and an item that some own turn has behind them, a turn has of a state that was met
   pub tells_met : (passes : TraceItem → Type 0) → ((x : TraceItem) → tells_run x ≡ true → passes x → ⊥) → (p : ℕ) (o2 : OwnWorld) (x : TraceItem)

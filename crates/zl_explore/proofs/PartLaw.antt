@@ -11,6 +11,7 @@ use Rattle.zl_explore.specs.AllParts.{part_of}
 use Rattle.zl_explore.specs.Part.{gone_along, gone_by, goes_on, is_of, none_gone}
 use Rattle.zl_explore.specs.Parts.{AllComeOn, AreAllOf, HasNoneOf}
 use Rattle.zl_explore.specs.Paths.{IsIn, IsPath, after}
+use Rattle.zl_explore.specs.Sights.{IsClear, Sight, StaysClearOf}
 use Rattle.zl_explore.specs.declared.bad.Bad.{Bad}
 use Rattle.zl_explore.specs.declared.part.Gone.{Gone}
 use Rattle.zl_explore.proofs.Ending.{Ends}
@@ -61,6 +62,13 @@ module _ (parts from : ℕ) (some : 0 < parts) where
         → (turns : List ℕ) → IsPath ready next start turns → (p : ℕ) → IsIn (ready (after ready next start turns)) p
         → IsQuiet bad (tells (after ready next start turns) p)
     none_parts tells bad have turns path =
+        let one = is_one turns in have (number turns) one.0 one.1 turns path one.3
+
+    -- nor does one lead to where is seen at once what is in none of any part
+    pub clear_parts : (sights : S → List (ℕ × Sight)) (never : List (List Bad))
+        → ((k : ℕ) → 1 ≤ k → k ≤ parts → StaysClearOf ready next start (part_of parts from k) sights never)
+        → (turns : List ℕ) → IsPath ready next start turns → IsClear never (sights (after ready next start turns))
+    clear_parts sights never have turns path =
         let one = is_one turns in have (number turns) one.0 one.1 turns path one.3
 
     -- where all come on in each part, each comes to an end

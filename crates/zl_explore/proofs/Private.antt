@@ -1,6 +1,6 @@
 -- Local instructions are private turns of a running world that rests.
 use Rattle.zl_code.proofs.OwnSteps.{own_step_there}
-use Rattle.zl_code.proofs.Common.{None, Option, Some, [], ap, cases_Bool, eq-eqb, eqb-true, false, false≢true, inl, inr, is_process, is_ready}
+use Rattle.zl_code.proofs.Common.{List, None, Option, Some, [], ap, cases_Bool, eq-eqb, eqb-true, false, false≢true, inl, inr, is_process, is_ready}
 use Rattle.zl_code.proofs.Common.{is_some, refl, same_Some, subst, sym, true, ℕ, ◌==◌, ◌∙◌, ◌∷◌, ◌≡◌, ◌⊎◌}
 use Rattle.zl_code.specs.declared.history.TraceItem.{TraceItem}
 use Rattle.zl_code.specs.declared.history.TraceItem.TheVariants as item
@@ -17,9 +17,12 @@ use Rattle.zl_explore.specs.GoesAhead.{reduced_start, reduced_turn}
 use Rattle.zl_explore.specs.Private.{IsLocal, IsStill, RestsStill, Tells, is_local, runs_alone}
 use Rattle.zl_explore.specs.Reduced.{Ahead, ArePrivate, Commutes, Forgets, IsReduced, IsSteady}
 use Rattle.zl_explore.specs.Running.{ready_of, rested_machine, turned}
+use Rattle.zl_explore.specs.Sights.{AreSeen, sights_in}
+use Rattle.zl_explore.specs.declared.bad.Bad.{Bad}
 use Rattle.zl_explore.proofs.GoesAhead.{start_ahead, turns_ahead}
 use Rattle.zl_explore.proofs.Local.{MovesOn, cpu_for, either, local_step, moves_on, other_step}
 use Rattle.zl_explore.proofs.Resting.{rested_steps}
+use Rattle.zl_explore.proofs.Seeing.{sights_same, sights_with}
 use Rattle.zl_explore.proofs.Still.{still_behind}
 use Rattle.zl_explore.proofs.Standing.{steps_from}
 use Rattle.zl_explore.proofs.Turns.{next_is, process_rested, turns_are, turns_rest}
@@ -164,6 +167,15 @@ tells_still passes fails s p rests is_in local tells =
   where
     different : tells.pid ≡ p → ⊥
     different here = fails tells.told (ap runs_alone (sym tells.step ∙ ap (own_step s.programs (own_here s)) here) ∙ local) tells.is
+
+-- a local instruction leaves what is seen
+pub sights_still : (together : List Bad) → IsSteady ready_of turned RestsStill IsLocal (λ u. AreSeen together (sights_in (own_here u)))
+sights_still together s p rests is_in local seen =
+    let moves = moves_here s rests p is_in local in
+    let step = local_step s.programs rests.own rests.still p moves in
+    subst (AreSeen together) (sym (ap sights_in (turn_is s rests p (own_with (cpu_for p moves.to) rests.own) (item.Run p 1) step)
+    ∙ (sights_same (own_with (cpu_for p moves.to) rests.own)
+    ∙ (sights_with (cpu_for p moves.to) rests.own ∙ (sym (sights_same rests.own) ∙ sym (ap sights_in rests.is)))))) seen
 
 -- what counts of a still world rests
 abbrev pub rests_start : (m : Machine) → IsStill (own_here m) → RestsStill (rested_machine m)

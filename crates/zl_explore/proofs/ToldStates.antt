@@ -20,7 +20,7 @@ module _ {X : Type 0} where
   below_at k (y ∷ m) (suc n) e below at = below_at k m n e (and_parts (is_lt (nat_cmp k y.0)) (below_all nat_cmp k m) below).1 at
 
   -- the n-th entry of a map is what stands at its key
-  get_at : (m : Map X) (n : ℕ) (e : ℕ × X) → IsTrue (is_sorted nat_cmp m) → slice_get m n ≡ Some e → get m e.0 ≡ Some e.1
+  pub get_at : (m : Map X) (n : ℕ) (e : ℕ × X) → IsTrue (is_sorted nat_cmp m) → slice_get m n ≡ Some e → get m e.0 ≡ Some e.1
   unfolding get
   get_at [] n e sorted at = absurd (none-some e at)
   get_at (x ∷ m) zero e sorted at =

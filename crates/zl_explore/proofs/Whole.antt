@@ -14,11 +14,12 @@ use Rattle.zl_explore.specs.Paths.{IsIn, IsPath, IsReached, after}
 use Rattle.zl_explore.specs.Private.{IsStill, RestsStill, IsLocal}
 use Rattle.zl_explore.specs.Running.{ready_of, rested_machine, told_at, turned}
 use Rattle.zl_explore.specs.Searching.{AreAll, HasNone, IsEndless, IsKnown, States}
+use Rattle.zl_explore.specs.Sights.{AreSeen, IsClear, StaysClear, sights_in}
 use Rattle.zl_explore.specs.declared.bad.Bad.{Bad}
 use Rattle.zl_explore.proofs.Ending.{Ends, path_more}
 use Rattle.zl_explore.proofs.Endless.{ends_too}
-use Rattle.zl_explore.proofs.OwnOrders.{endless_own, ends_met, tells_met}
-use Rattle.zl_explore.proofs.PartLaw.{all_parts, come_parts, none_parts}
+use Rattle.zl_explore.proofs.OwnOrders.{endless_own, ends_met, seen_met, tells_met}
+use Rattle.zl_explore.proofs.PartLaw.{all_parts, clear_parts, come_parts, none_parts}
 use Rattle.zl_explore.proofs.Private.{local_reduced, local_start, local_turns, rests_start}
 use Rattle.zl_explore.proofs.Reduced.{good_too}
 use Rattle.zl_explore.proofs.Turns.{ready_same, told_same}
@@ -68,6 +69,15 @@ module _ (m : Machine) (still : IsStill (own_here m)) where
       quiet reached.turns reached.is_path tells.pid (subst (λ u. IsIn (ready_of u) tells.pid) (sym reached.leads) tells.is_ready) b tells.told in_bad
       (ap (λ u. told_at u tells.pid) reached.leads ∙ ap (option_map (λ (y : OwnWorld × TraceItem). y.1)) tells.step) tells.is
 
+  -- none leads to a world in which what may not be so at once is seen
+  pub whole_clear : (never : List (List Bad)) → ((turns : List ℕ) → IsPath ready_of reduced start turns
+      → IsClear never (sights_in (own_here (after ready_of reduced start turns)))) → StaysClear m.programs (own_here m) never
+  whole_clear never clear turns together in_never order =
+      let it = seen_met m still reduced (local_reduced most_ahead) start (local_start most_ahead (rested_machine m) (rests_start m still)) Reached closed
+      at_start turns order.last order.leads together order.seen in
+      let reached = it.1 in
+      clear reached.turns reached.is_path together in_never (subst (λ u. AreSeen together (sights_in (own_here u))) (sym reached.leads) it.2)
+
   -- none leads to a world from which none leads to an end
   pub whole_come : ((turns : List ℕ) → IsPath ready_of reduced start turns → Ends ready_of reduced (after ready_of reduced start turns))
       → IsEndless m.programs (own_here m) → ⊥
@@ -82,8 +92,8 @@ module _ (m : Machine) (still : IsStill (own_here m)) where
 
   -- ---- the law: all parts together are the whole
 
-  module _ (parts from : ℕ) (some : 0 < parts) (told : ℕ → List States) (bad : List Bad) (endless : ℕ → Bool)
-      (known : (k : ℕ) → 1 ≤ k → k ≤ parts → IsKnown m (part_of parts from k) (told k) bad (endless k)) where
+  module _ (parts from : ℕ) (some : 0 < parts) (told : ℕ → List States) (bad : List Bad) (never : List (List Bad)) (endless : ℕ → Bool)
+      (known : (k : ℕ) → 1 ≤ k → k ≤ parts → IsKnown m (part_of parts from k) (told k) bad never (endless k)) where
     -- the ends that were told of one of them
     pub parts_all : (ends : List States) → ((k : ℕ) (x : States) → 1 ≤ k → k ≤ parts → IsIn (told k) x → IsIn ends x) → AreAll m.programs (own_here m) ends
     parts_all ends more = whole_all ends (all_parts parts from some ready_of reduced start (λ u. told_in (own_here u)) ends
@@ -93,23 +103,31 @@ module _ (m : Machine) (still : IsStill (own_here m)) where
     pub parts_none : HasNone m.programs (own_here m) bad
     parts_none = whole_none bad (none_parts parts from some ready_of reduced start told_at bad (λ k first last. (known k first last).none))
 
+    pub parts_clear : StaysClear m.programs (own_here m) never
+    parts_clear = whole_clear never (clear_parts parts from some ready_of reduced start (λ u. sights_in (own_here u)) never
+        (λ k first last. (known k first last).clear))
+
     pub parts_come : ((k : ℕ) → 1 ≤ k → k ≤ parts → endless k ≡ false) → IsEndless m.programs (own_here m) → ⊥
     parts_come none = whole_come (come_parts parts from some ready_of reduced start (λ k first last. (known k first last).come (none k first last)))
 
   -- the only part is the whole
-  module _ (part : Part) (only : IsOnly part) (ends : List States) (bad : List Bad) (endless : Bool) (known : IsKnown m part ends bad endless) where
-    each : (k : ℕ) → 1 ≤ k → k ≤ 1 → IsKnown m (part_of 1 part.from k) ends bad endless
+  module _ (part : Part) (only : IsOnly part) (ends : List States) (bad : List Bad) (never : List (List Bad)) (endless : Bool)
+      (known : IsKnown m part ends bad never endless) where
+    each : (k : ℕ) → 1 ≤ k → k ≤ 1 → IsKnown m (part_of 1 part.from k) ends bad never endless
     each k first last = let one : k ≡ 1 = omega (arith, first, last) in
-        rw one (subst (λ (x : Part). IsKnown m x ends bad endless) same known)
+        rw one (subst (λ (x : Part). IsKnown m x ends bad never endless) same known)
       where
         same : part ≡ part_of 1 part.from 1
         same i = record { number = only.0 i; parts = only.1 i; from = part.from }
 
     pub only_all : AreAll m.programs (own_here m) ends
-    only_all = parts_all 1 part.from (omega arith) (λ k. ends) bad (λ k. endless) each ends (λ k x first last is_in. is_in)
+    only_all = parts_all 1 part.from (omega arith) (λ k. ends) bad never (λ k. endless) each ends (λ k x first last is_in. is_in)
 
     pub only_none : HasNone m.programs (own_here m) bad
-    only_none = parts_none 1 part.from (omega arith) (λ k. ends) bad (λ k. endless) each
+    only_none = parts_none 1 part.from (omega arith) (λ k. ends) bad never (λ k. endless) each
+
+    pub only_clear : StaysClear m.programs (own_here m) never
+    only_clear = parts_clear 1 part.from (omega arith) (λ k. ends) bad never (λ k. endless) each
 
     pub only_come : endless ≡ false → IsEndless m.programs (own_here m) → ⊥
-    only_come none = parts_come 1 part.from (omega arith) (λ k. ends) bad (λ k. endless) each (λ k first last. none)
+    only_come none = parts_come 1 part.from (omega arith) (λ k. ends) bad never (λ k. endless) each (λ k first last. none)

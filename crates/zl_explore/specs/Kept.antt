@@ -1,5 +1,5 @@
 -- What a search keeps.
-use Rattle.std.specs.Prelude.{ℕ, ◌≡◌, ◌+◌, ◌-◌, ◌≤◌, false, List, [], length, map, Option, None, Some, slice_get, IsTrue}
+use Rattle.std.specs.Prelude.{ℕ, ◌≡◌, ◌+◌, ◌-◌, ◌≤◌, false, List, [], length, map, Option, None, Some, slice_get, IfSome, IsTrue}
 use Rattle.zl_code.specs.declared.history.TraceItem.{TraceItem}
 use Rattle.zl_calls.specs.World.{Machine, own_here}
 use Rattle.zl_explore.specs.Edges.{AreEdges, HaveEdges}
@@ -12,7 +12,9 @@ use Rattle.zl_explore.specs.Private.{RestsStill}
 use Rattle.zl_explore.specs.Running.{ready_of, told_at}
 use Rattle.zl_explore.specs.Quiet.{AreQuiet}
 use Rattle.zl_explore.specs.Searching.{Search, States}
+use Rattle.zl_explore.specs.Sights.{AreClear, Sees, Sight, sights_in}
 use Rattle.zl_explore.specs.Telling.{Leads, Tells, TellsCut}
+use Rattle.zl_explore.specs.declared.bad.Bad.{Bad}
 use Rattle.zl_explore.specs.declared.ends.Next.{Next}
 use Rattle.zl_explore.specs.declared.ends.Next.TheVariants as next
 use Rattle.zl_explore.specs.declared.kept.Kept.{Kept}
@@ -38,12 +40,21 @@ states_of m = told_in (own_here m)
 abbrev pub told_of : Kept → List States
 told_of k = map (λ states. states.items) k.told.items
 
+-- what is seen of each process
+abbrev pub sights_of : Machine → List (ℕ × Sight)
+sights_of m = sights_in (own_here m)
+
+-- what may not be so at once
+abbrev pub never_of : Kept → List (List Bad)
+never_of k = map (λ together. together.items) k.never.together.items
+
 -- what is seen of it
 abbrev pub search_of : Kept → Search
 search_of k = record {
   root = k.root;
   told = told_of k;
-  bad = k.bad.items;
+  bad = k.never.bad.items;
+  never = never_of k;
   part = k.part;
   most = k.most;
   worlds = length k.nodes.items;
@@ -64,6 +75,10 @@ pub record IsEndAt (nodes : List (Node (Parted Machine))) (place : ℕ) : Type 0
   pub there : slice_get nodes place ≡ Some node
   pub nobody : goes_of node.at ≡ []
 
+-- what may not be so at once and is seen in the world at the place; nothing where none is
+abbrev pub SeesNext : Kept → Option (List Bad) → Type 0
+SeesNext k found = IfSome (slice_get k.nodes.items k.widened) (λ n. Sees (never_of k) (sights_of n.at.at) found)
+
 -- what each process is in, where an order of the part comes to an end in the world; nothing where none does
 abbrev pub IsEndOf : Option States → Parted Machine → Type 0
 IsEndOf (Some states) s = IsTrue (is_of s.part s.gone) × (states ≡ states_of s.at)
@@ -81,7 +96,8 @@ pub record IsWhole (k : Kept) : Type 0 where
   pub told : AreTold k.nodes.items k.widened (told_of k)
   pub edges : AreEdges goes_of next_of k.nodes.items k.course.edges.items
   pub have_edges : HaveEdges goes_of next_of k.nodes.items k.course.edges.items k.widened
-  pub quiet : AreQuiet goes_of tells_of k.bad.items k.nodes.items k.widened
+  pub quiet : AreQuiet goes_of tells_of k.never.bad.items k.nodes.items k.widened
+  pub clear : AreClear sights_of (never_of k) k.nodes.items k.widened
   pub within : k.widened ≤ length k.nodes.items
 
 -- one world more was gone on from, unless the search stops there; it says of no world that it was the last, nor that worlds have doubled
@@ -106,6 +122,7 @@ IsNoEnd _ = Unit {0}
 -- it is that an order has what none may have, or that memory is wanting
 abbrev pub IsBadOrMemory : Next → Type 0
 IsBadOrMemory (next.Bad b) = Unit {0}
+IsBadOrMemory (next.BadWorld b) = Unit {0}
 IsBadOrMemory next.Memory = Unit {0}
 IsBadOrMemory _ = ⊥
 
@@ -119,4 +136,4 @@ pub record Goes (old : Kept) (n : Option Next) (new : Kept) : Type 0 where
   pub moves : Moves n old.widened new.widened
   pub most : new.most ≡ old.most
   pub cut : CutsFull n new
-  pub bad : new.bad ≡ old.bad
+  pub never : new.never ≡ old.never

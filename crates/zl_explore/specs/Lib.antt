@@ -8,6 +8,7 @@ pub mod Part
 pub mod Parts
 pub mod Nodes
 pub mod Met
+pub mod Sights
 pub mod Quiet
 pub mod Edges
 pub mod Marks

@@ -1,11 +1,12 @@
-//! What no order may have: items that patterns name, and what processes are in at an end.
+//! Patterns: items, what processes are in at an end, and what they are in or have in a world.
 
 ghost use Rattle.std.specs.Prelude.{◌≡◌, ◌++◌, ◌↔◌, IfNone, IfOk, IfSome, IsTrue, OnOk, string_bytes};
 ghost use Rattle.zl_explore.specs.Bad.{Fits, FitsOne, FitsState, IsCall, IsGoodEnd, IsOne, IsQuiet, IsState, NamesEnd, NamesItem, call_words, outcome_words, what_words, who_words, words_of};
 
+use bitflags::Flags;
 use std::alloc::{AllocError, Global};
 use zl_code::{CallName, Outcome, ProcState, TraceItem};
-use zl_rights::{Pid, Status};
+use zl_rights::{Koid, Pid, Rights, Status};
 
 /// What no order may have.
 ///
@@ -33,6 +34,11 @@ pub enum What {
     Blocked,
     /// At an end the process was made and never started.
     Created,
+    /// The process has a handle to the object of this koid, with these rights at least.
+    Has {
+        koid: Koid,
+        rights: Rights,
+    },
 }
 
 impl Bad {
@@ -57,7 +63,7 @@ impl Bad {
     }
 
     /// Whether it may be of this process.
-    fn is_pid(self, pid: Pid) -> bool
+    pub fn is_pid(self, pid: Pid) -> bool
         ensures { IsTrue result ↔ IsOne self.pid pid }
     {
         match self.pid {
@@ -94,7 +100,7 @@ impl What {
     }
 
     /// Whether this is what a process is in.
-    fn is_state(self, state: ProcState) -> bool
+    pub fn is_state(self, state: ProcState) -> bool
         ensures { IsTrue result ↔ IsState self state }
     {
         match (self, state) {
@@ -119,6 +125,8 @@ impl What {
             What::Ended(code) => write!(text, "ended {code}"),
             What::Blocked => text.push_str("blocked"),
             What::Created => text.push_str("created"),
+            What::Has { koid, rights } if rights.is_empty() => write!(text, "has {koid}"),
+            What::Has { koid, rights } => write!(text, "has {koid} {}", rights.bits()),
         }
     }
 }
@@ -247,10 +255,25 @@ fn guessed_alone(word: &str) -> Option<What> {
     }
 }
 
+/// What the koid of an object and, if they stand there, rights stand for.
+fn guessed_has(koid: &str, rights: Option<&str>) -> Option<What> {
+    let rights = match rights {
+        Some(number) => Rights::from_bits(number.parse::<u32>().ok()?)?,
+        None => Rights::NONE,
+    };
+    Some(What::Has {
+        koid: koid.parse::<Koid>().ok()?,
+        rights,
+    })
+}
+
 /// What two or three words behind the process stand for.
 fn guessed_pair(first: &str, second: &str, third: Option<&str>) -> Option<What> {
     if first == "ended" {
         return Some(What::Ended(second.parse::<i32>().ok()?));
+    }
+    if first == "has" {
+        return guessed_has(second, third);
     }
     let call = match first {
         "*" => None,

@@ -28,6 +28,15 @@ pub struct BadTurn {
     pub bad: Bad,
 }
 
+/// Where an order leads to a world in which patterns that are listed together are seen at once.
+#[derive(Drop)]
+pub struct BadWorld {
+    /// Whose turns lead there, in their order.
+    pub turns: Vec<Pid>,
+    /// The patterns.
+    pub together: Vec<Bad>,
+}
+
 /// How a search goes on.
 #[derive(Drop)]
 pub enum Next {
@@ -35,7 +44,9 @@ pub enum Next {
     End(End),
     /// An order has an item that may not be.
     Bad(BadTurn),
-    /// There is no other end, whatever the order, and no item that may not be.
+    /// An order leads to a world in which what may not be so at once is seen.
+    BadWorld(BadWorld),
+    /// There is no other end, whatever the order, and nothing that may not be.
     All {
         /// Whether an order leads to where none comes to an end any more.
         endless: bool,

@@ -1,21 +1,22 @@
 //! What a search keeps, and how it goes on.
 
-ghost use Rattle.std.specs.Prelude.{◌≡◌, ◌++◌, ◌∷◌, ◌<◌, ◌≤◌, [], length, map, slice_get, IfOk, IfSome, IsTrue, OnErr, OnOk, Some};
+ghost use Rattle.std.specs.Prelude.{◌≡◌, ◌++◌, ◌∷◌, ◌<◌, ◌≤◌, [], length, map, slice_get, IfOk, IfSome, IsTrue, None, OnErr, OnOk, Some};
 ghost use Rattle.zl_calls.specs.World.{own_here};
 ghost use Rattle.zl_explore.specs.GoingAhead.{Takes, reduced, start_of};
 ghost use Rattle.zl_explore.specs.Private.{IsStill};
 ghost use Rattle.zl_explore.specs.Running.{ready_of, rested_machine};
 ghost use Rattle.zl_explore.specs.Paths.{IsIn, after};
-ghost use Rattle.zl_explore.specs.Kept.{Goes, IsBadOrMemory, IsEndAt, IsEndOf, IsNoEnd, IsWhole, doubling_at, goes_of, moved_on, search_of, tells_of, told_of};
+ghost use Rattle.zl_explore.specs.Kept.{Goes, IsBadOrMemory, IsEndAt, IsEndOf, IsNoEnd, IsWhole, SeesNext, doubling_at, goes_of, moved_on, search_of, tells_of, told_of};
 ghost use Rattle.std.specs.Option.{option_map};
 ghost use Rattle.zl_explore.specs.Quiet.{IsBadTurnAt};
-ghost use Rattle.zl_explore.specs.Telling.{Leads, Lessens, Tells, TellsAll, TellsCut, TellsEndless, TellsNone, TellsPart};
+ghost use Rattle.zl_explore.specs.Telling.{Leads, Lessens, Tells, TellsAll, TellsClear, TellsCut, TellsEndless, TellsNone, TellsPart};
 
 use crate::bad::Bad;
 use crate::edges::endless_place;
-use crate::ends::{BadTurn, End, Next, are_same, digest_of};
+use crate::ends::{BadTurn, BadWorld, End, Next, are_same, digest_of};
 use crate::machine::Machine;
 use crate::met::Met;
+use crate::never::Never;
 use crate::part::{Part, Parted};
 use crate::places::Places;
 use crate::running::Running;
@@ -43,7 +44,7 @@ pub struct Kept {
     pub nodes: Met<Parted<Running>>,
     pub course: Course,
     /// What no order may have.
-    pub bad: Vec<Bad>,
+    pub never: Never,
     /// How many worlds there may be.
     pub most: usize,
     /// At so many worlds it says that they have doubled.
@@ -61,7 +62,7 @@ impl Kept {
     pub fn new(
         alloc: Global,
         world: World,
-        bad: Vec<Bad>,
+        never: Never,
         part: Part,
         most: usize,
     ) -> Result<Kept, AllocError>
@@ -69,7 +70,7 @@ impl Kept {
         ensures whole { IfOk result IsWhole }
         ensures root { IfOk result (λ kept. kept.root ≡ rested_machine world) }
         ensures told { IfOk result (λ kept. told_of kept ≡ []) }
-        ensures bad { IfOk result (λ kept. kept.bad ≡ bad) }
+        ensures never { IfOk result (λ kept. kept.never ≡ never) }
         ensures part { IfOk result (λ kept. kept.part ≡ part) }
         ensures most { IfOk result (λ kept. kept.most ≡ most) }
         ensures left { IfOk result (λ kept. (search_of kept).left ≡ most) }
@@ -89,7 +90,7 @@ impl Kept {
                 turns: 0,
                 edges: Vec::new(alloc),
             },
-            bad,
+            never,
             most,
             doubling: MANY,
             widened: 0,
@@ -98,13 +99,13 @@ impl Kept {
         })
     }
 
-    /// Goes on until there is an end that wasn't told, an item that may not be, twice as many worlds, or no more
+    /// Goes on until there is an end that wasn't told, an item or a world that may not be, twice as many worlds, or no more
     /// to go on from.
     pub fn next_end(&mut self) -> Next
         requires { IsWhole self.old }
         ensures whole { IsWhole self.new }
         ensures root { self.new.root ≡ self.old.root }
-        ensures bad { self.new.bad ≡ self.old.bad }
+        ensures never { self.new.never ≡ self.old.never }
         ensures part { self.new.part ≡ self.old.part }
         ensures told { Tells (Some result) (told_of self.old) (told_of self.new) }
         ensures leads { Leads (Some result) (search_of self.old) }
@@ -112,6 +113,7 @@ impl Kept {
         ensures known { TellsPart result (search_of self.new) }
         ensures all { TellsAll result (search_of self.new) }
         ensures none { TellsNone result (search_of self.new) }
+        ensures clear { TellsClear result (search_of self.new) }
         ensures endless { TellsEndless result (search_of self.new) }
         ensures cut { TellsCut result (search_of self.new) }
         ensures most { self.new.most ≡ self.old.most }
@@ -153,6 +155,7 @@ impl Kept {
         ensures known { TellsPart result (search_of self.now) }
         ensures all { TellsAll result (search_of self.now) }
         ensures none { TellsNone result (search_of self.now) }
+        ensures clear { TellsClear result (search_of self.now) }
         ensures endless { TellsEndless result (search_of self.now) }
         ensures cut { TellsCut result (search_of self.now) }
     {
@@ -171,6 +174,11 @@ impl Kept {
         requires room { self.old.widened < self.old.most }
         ensures { Goes self.old result self.new }
     {
+        match self.bad_world() {
+            Ok(None) => (),
+            Ok(Some(together)) => return Some(self.tell_world(together)),
+            Err(_) => return Some(Next::Memory),
+        }
         let Ok(pids) = self.nodes.ready_at(self.widened) else {
             return Some(Next::Memory);
         };
@@ -183,7 +191,7 @@ impl Kept {
             &mut self.course,
             place,
             &pids,
-            &self.bad,
+            &self.never.bad,
             most,
         ) {
             Ok(Widened::All) => {
@@ -196,10 +204,44 @@ impl Kept {
         }
     }
 
+    /// What may not be so at once, and is in the next world. Only memory can be refused.
+    fn bad_world(&self) -> Result<Option<Vec<Bad>>, AllocError>
+        requires whole { IsWhole self.now }
+        requires within { self.now.widened < length self.now.nodes.items }
+        ensures { IfOk result (λ found. SeesNext self.now
+            (option_map (λ together. together.items) found)) }
+    {
+        if self.never.together.is_empty() {
+            return Ok(None);
+        }
+        let next = self.nodes.copy_at(self.widened)?;
+        match next.at.seen_at_once(&self.never.together) {
+            Some(together) => Ok(Some(together.to_vec(self.alloc)?)),
+            None => Ok(None),
+        }
+    }
+
+    /// Tells of the next world, in which that is so at once.
+    fn tell_world(&self, together: Vec<Bad>) -> Next
+        requires whole { IsWhole self.now }
+        requires within { self.now.widened < length self.now.nodes.items }
+        requires sees { SeesNext self.now (Some together.items) }
+        ensures which { IsBadOrMemory result }
+        ensures leads { Leads (Some result) (search_of self.now) }
+    {
+        let Ok(turns) = self.nodes.turns_to(self.widened) else {
+            return Next::Memory;
+        };
+        match taken_by(self.alloc, &self.root, &turns) {
+            Ok(turns) => Next::BadWorld(BadWorld { turns, together }),
+            Err(_) => Next::Memory,
+        }
+    }
+
     /// Tells of the turn of the process in the next world, whose item the pattern names.
     fn bad_turn(&self, pid: Pid, bad: Bad) -> Next
         requires whole { IsWhole self.now }
-        requires names { IsBadTurnAt goes_of tells_of self.now.bad.items self.now.nodes.items
+        requires names { IsBadTurnAt goes_of tells_of self.now.never.bad.items self.now.nodes.items
             self.now.widened pid bad }
         ensures which { IsBadOrMemory result }
         ensures leads { Leads (Some result) (search_of self.now) }
@@ -221,6 +263,7 @@ impl Kept {
     fn end_here(&mut self) -> Option<Next>
         requires whole { IsWhole self.old }
         requires end { IsEndAt self.old.nodes.items self.old.widened }
+        requires clear { SeesNext self.old None }
         requires room { self.old.widened < self.old.most }
         ensures { Goes self.old result self.new }
     {
@@ -283,7 +326,7 @@ impl Kept {
         ensures nodes { self.new.nodes ≡ self.old.nodes }
         ensures widened { self.new.widened ≡ self.old.widened }
         ensures most { self.new.most ≡ self.old.most }
-        ensures bad { self.new.bad ≡ self.old.bad }
+        ensures never { self.new.never ≡ self.old.never }
         ensures part { self.new.part ≡ self.old.part }
         ensures course { self.new.course ≡ self.old.course }
     {

@@ -1,16 +1,20 @@
 //! A running world as a machine, whose turns are the lab's own steps up to the next call.
 
-ghost use Rattle.std.specs.Prelude.{◌≡◌, ◌++◌, IfOk, OnOk};
+ghost use Rattle.std.specs.Prelude.{◌≡◌, ◌++◌, map, IfNone, IfOk, IfSome, OnOk};
 ghost use Rattle.zl_code.specs.OwnHistory.{tells_want};
 ghost use Rattle.zl_calls.specs.World.{is_ready_in, own_here};
 ghost use Rattle.zl_explore.specs.Orders.{one_if, ready_in, told_in};
 ghost use Rattle.zl_explore.specs.GoingAhead.{Takes, reduced, start_of};
+ghost use Rattle.zl_explore.specs.Paths.{IsIn};
 ghost use Rattle.zl_explore.specs.Private.{IsStill};
+ghost use Rattle.zl_explore.specs.Sights.{AreSeen, IsClear, sights_in};
 ghost use Rattle.zl_explore.specs.Running.{ready_of, rested_machine, told_at};
 
 use crate::ahead::{begin, take_turn};
+use crate::bad::Bad;
 use crate::ends::{mixed, number_of, states_of};
 use crate::machine::Machine;
+use crate::sights::seen_at_once;
 use std::alloc::{AllocError, Global};
 use std::marker::Model;
 use zl_calls::{Outcome, ProcState, TraceItem, World};
@@ -49,6 +53,16 @@ impl Running {
         ensures { IfOk result (λ states. states.items ≡ told_in (own_here self.now)) }
     {
         states_of(self.alloc, &self.world)
+    }
+
+    /// The first of these lists of which each pattern names a process, at once.
+    pub fn seen_at_once<'a>(&self, never: &'a [Vec<Bad>]) -> Option<&'a Vec<Bad>>
+        ensures some { IfSome result (λ together. IsIn (map (λ one. one.items) never.now) together.now.items
+            × AreSeen together.now.items (sights_in (own_here self.now))) }
+        ensures none { IfNone result (IsClear (map (λ one. one.items) never.now)
+            (sights_in (own_here self.now))) }
+    {
+        seen_at_once(never, &self.world)
     }
 
     /// The machine behind a turn of the process, up to the next call. Whose instructions these are comes

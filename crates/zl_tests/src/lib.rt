@@ -16,7 +16,11 @@ mod image_tests;
 #[cfg(test)]
 mod object_tests;
 #[cfg(test)]
+mod never_tests;
+#[cfg(test)]
 mod order_tests;
+#[cfg(test)]
+mod packets;
 #[cfg(test)]
 mod quiet_tests;
 #[cfg(test)]

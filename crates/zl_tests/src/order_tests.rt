@@ -4,55 +4,13 @@
 //! A world and a search have many parts, and a proof goes through all of them wherever a function that
 //! has one lends it or lets it go. So a small function makes each, lends it once, and gives plain numbers.
 
-ghost use Rattle.std.specs.Prelude.{IfSome};
-ghost use Rattle.zl_calls.specs.World.{own_here};
-ghost use Rattle.zl_explore.specs.Private.{IsStill};
-
-use std::alloc::{AllocError, Global};
+use crate::packets::world;
+use std::alloc::Global;
 use std::test::*;
-use zl_asm::assemble_bytes;
 use zl_calls::World;
-use zl_code::{Boot, Grant, Grants, ProcState, Statement};
-use zl_explore::{Bad, End, Next, Part, Search, named_end, read_bad, read_part};
-use zl_interp::{Library, Program};
-use zl_rights::{Koid, Pid};
-
-const ROOT: Koid = 1;
-
-const PORT: Koid = 2;
-
-const EVENT: Koid = 3;
-
-/// Takes two packets, of which the first tells which of two handles is closed first; a third is closed
-/// then, and it exits with the value of the third event that it makes.
-const TAKES: &str = ".raw
-    port_wait r20, r0, r10, r11, r12, r13
-    jeq r10, 1, one
-    close r20, r3
-    port_wait r20, r0, r10, r11, r12, r13
-    close r20, r2
-    jmp on
-one:
-    close r20, r2
-    port_wait r20, r0, r10, r11, r12, r13
-    close r20, r3
-on:
-    const r10, 0
-    const r11, 0
-    const r12, 0
-    const r13, 0
-    close r20, r4
-    event_create r20, r5
-    event_create r20, r6
-    event_create r20, r7
-    process_exit r7
-";
-
-/// Queues a packet whose key is its word, and exits.
-const QUEUES: &str = ".raw
-    port_queue r20, r0, r1, r21
-    process_exit r21
-";
+use zl_code::ProcState;
+use zl_explore::{Bad, End, Never, Next, Part, Search, named_end, read_bad, read_part};
+use zl_rights::Pid;
 
 /// Patterns.
 const SPELLED: &[&str] = &[
@@ -66,6 +24,9 @@ const SPELLED: &[&str] = &[
     "* * blocked",
     "4 port_wait *",
     "4 process_exit ended 7",
+    "4 has 3",
+    "* has 18446744073709551615 12",
+    "4 has 3 4096",
 ];
 
 /// None of them spells a pattern.
@@ -94,6 +55,15 @@ const NOT_SPELLED: &[&str] = &[
     "6 chan_write OK OK",
     "6 process_exit ended 1 2",
     "any blocked",
+    "4 has",
+    "4 has *",
+    "4 has 03",
+    "4 has 3 0",
+    "4 has 3 016",
+    "4 has 3 READ",
+    "4 has 3 12 12",
+    "4 has 3 4294967295",
+    "4 has event 3",
 ];
 
 /// None of them is a part.
@@ -116,72 +86,6 @@ const NO_PARTS: [&str; 16] = [
     "1/4294967296",
 ];
 
-/// The programs of the three processes.
-fn library(alloc: Global) -> Option<Library> {
-    let mut library = Library::new(alloc);
-    for text in [TAKES, QUEUES] {
-        push_program(alloc, &mut library, text)?;
-    }
-    Some(library)
-}
-
-/// The program of the text comes behind the others.
-fn push_program(alloc: Global, library: &mut Library, text: &str) -> Option<()> {
-    let image = assemble_bytes(alloc, text.as_bytes()).ok()?;
-    library.push(Program::Raw(image)).ok()
-}
-
-/// One handle to the port, and three to the event where they are wanted.
-fn grants(alloc: Global, wants_events: bool) -> Result<Grants, AllocError> {
-    let mut grants = Grants::new(alloc);
-    for koid in [PORT, EVENT, EVENT, EVENT] {
-        if koid == PORT || wants_events {
-            grants.push(Grant { koid, rights: None })?;
-        }
-    }
-    Ok(grants)
-}
-
-/// The process whose word this is comes behind what the boot makes before it.
-fn push_process(
-    alloc: Global,
-    statements: &mut Vec<Statement>,
-    word: u64,
-) -> Result<(), AllocError> {
-    statements.push(Statement::Process {
-        job: ROOT,
-        program: u64::from(word > 0),
-        word,
-        handles: grants(alloc, word == 0)?,
-    })?;
-    Ok(())
-}
-
-/// A port, an event, and three processes.
-fn statements(alloc: Global) -> Result<Vec<Statement>, AllocError> {
-    let mut statements = Vec::with_capacity(alloc, 5)?;
-    statements.push(Statement::Port)?;
-    statements.push(Statement::Event)?;
-    for word in 0..3 {
-        push_process(alloc, &mut statements, word)?;
-    }
-    Ok(statements)
-}
-
-/// A world with one that takes packets, the process 4, and two that queue them.
-fn world(alloc: Global) -> Option<World>
-    ensures { IfSome result (λ world. IsStill (own_here world)) }
-{
-    let boot = Boot {
-        statements: statements(alloc).ok()?,
-        limit: 10,
-    };
-    match World::boot(alloc, library(alloc)?, &boot) {
-        Ok(world) => Some(world),
-        Err(_) => None,
-    }
-}
-
 /// The patterns with these words.
 fn patterns(alloc: Global, words: &[&str]) -> Option<Vec<Bad>> {
     let mut patterns = Vec::new(alloc);
@@ -196,24 +100,35 @@ fn pattern(alloc: Global, words: &str) -> Option<Bad> {
     read_bad(alloc, words).ok()?
 }
 
+/// What these words say.
+pub fn never(alloc: Global, words: &[&str]) -> Option<Never> {
+    let mut never = Never::new(alloc);
+    for one in words {
+        if !never.read(alloc, one).ok()? {
+            return None;
+        }
+    }
+    Some(never)
+}
+
 /// A search over the orders of the part that meets no more worlds than so many, for what none may have.
 fn search_in(alloc: Global, bad: &[&str], part: Part, most: usize) -> Option<Search> {
-    let bad = patterns(alloc, bad)?;
-    Search::new(alloc, world(alloc)?, bad, part, most).ok()
+    let never = never(alloc, bad)?;
+    Search::new(alloc, world(alloc)?, never, part, most).ok()
 }
 
 /// The same over all orders.
-fn search_of(alloc: Global, bad: &[&str], most: usize) -> Option<Search> {
+pub fn search_of(alloc: Global, bad: &[&str], most: usize) -> Option<Search> {
     search_in(alloc, bad, Part::only(), most)
 }
 
 /// What a search told.
 #[derive(Clone, Copy)]
-struct Told {
+pub struct Told {
     /// How many ends.
-    ends: usize,
+    pub ends: usize,
     /// Whether one goes on for ever, where these are all ends.
-    endless: Option<bool>,
+    pub endless: Option<bool>,
     /// How many worlds it met.
     worlds: usize,
     /// How many turns it took.
@@ -228,7 +143,7 @@ fn ends_of(search: &mut Search) -> (usize, Option<bool>) {
             Next::End(_) => ends = ends.saturating_add(1),
             Next::Doubled => {}
             Next::All { endless } => return (ends, Some(endless)),
-            Next::Bad(_) | Next::Cut | Next::Memory => return (ends, None),
+            Next::Bad(_) | Next::BadWorld(_) | Next::Cut | Next::Memory => return (ends, None),
         }
     }
     (ends, None)
@@ -246,7 +161,7 @@ fn tell(search: &mut Search) -> Told {
 }
 
 /// What such a search tells.
-fn told_by(alloc: Global, bad: &[&str], most: usize) -> Option<Told> {
+pub fn told_by(alloc: Global, bad: &[&str], most: usize) -> Option<Told> {
     let mut search = search_of(alloc, bad, most)?;
     Some(tell(&mut search))
 }

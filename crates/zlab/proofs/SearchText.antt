@@ -12,19 +12,22 @@ use Rattle.zl_explore.specs.Paths.{IsIn}
 use Rattle.zl_explore.specs.Private.{IsStill}
 use Rattle.zl_explore.specs.Bad.{IsGoodEnd, NamesEnd}
 use Rattle.zl_explore.specs.Searching.{BeganWith, HasNone, IsBadOrder, IsEnd, IsKnown, Search, States}
-use Rattle.zl_explore.specs.Telling.{Leads, Tells, TellsAll, TellsCut, TellsEndless, TellsNone, TellsPart}
+use Rattle.zl_explore.specs.Telling.{Leads, Tells, TellsAll, TellsClear, TellsCut, TellsEndless, TellsNone, TellsPart}
+use Rattle.zl_explore.specs.Sights.{IsBadWorld, StaysClear}
 use Rattle.zl_explore.specs.declared.bad.Bad.{Bad}
 use Rattle.zl_explore.specs.declared.ends.BadTurn.{BadTurn}
+use Rattle.zl_explore.specs.declared.ends.BadWorld.{BadWorld}
 use Rattle.zl_explore.specs.declared.ends.End.{End as Told}
 use Rattle.zl_explore.specs.declared.ends.Next.TheVariants as next
 use Rattle.zl_explore.proofs.Lists.{get_either}
 use Rattle.zl_explore.proofs.Private.{same_machine}
 use Rattle.zl_trace.proofs.Pages.{begins_longer, begun_behind}
-use Rattle.zlab.specs.Ends.{BeginsEnd, BeginsEnds, BeginsLast, BeginsTurn, Closes, End, IsEndFrom, IsSearchText, PushesEnd, PushesTurn, Says, SaysAll}
-use Rattle.zlab.specs.Ends.{SaysEndless, Sought}
-use Rattle.zlab.specs.Ends.{WritesEnd, WritesEnds, WritesLast, WritesTurn, bad_end, bad_line, bad_turn, counts, end_text, endless_line, good_end, good_end_begun}
-use Rattle.zlab.specs.Ends.{last_line, named_end, named_end_begun, no_end_begun, no_end_written, no_turn, no_turn_begun, some_ends, sought}
-use Rattle.zlab.specs.Ends.{turn, turn_begun, verdict_word}
+use Rattle.zlab.specs.Ends.{BeginsEnd, BeginsEnds, BeginsLast, BeginsTurns, Closes, End, IsEndFrom, IsSearchText, PushesEnd, PushesTurns, Says}
+use Rattle.zlab.specs.Ends.{SaysAll, SaysEndless, Sought, schedule_text, together_line}
+use Rattle.zlab.specs.Ends.{WritesEnd, WritesEnds, WritesLast, WritesTurns, all_turns, bad_end, bad_line, bad_turn, bad_world, counts, end_text, endless_line, good_end, good_end_begun}
+use Rattle.zlab.specs.Ends.{last_line, named_end, named_end_begun, no_end_begun, no_end_written, no_turns, no_turns_begun, some_ends, sought}
+use Rattle.zlab.specs.Ends.{turns_begun, verdict_word}
+use Rattle.zl_sched.specs.Follows.{turns_of}
 use Rattle.zlab.specs.declared.fault.Verdict.TheVariants as verdict
 
 -- the ends so far were written, no pattern names what one is in there, and the search goes on from them
@@ -86,6 +89,11 @@ module _ (m : Machine) (asked : Sought) (limit : ℕ) (s : Search) (old mid : Op
         → (new : Option (List ℕ)) → BeginsLast endless (verdict_word v) worlds count mid new → BeginsEnds m.programs (own_here m) asked limit old new
     last_begun v endless worlds says new last = rest_begun v _ (closes_here v endless worlds last.turns says) new last.begun
 
+  -- what stands behind a schedule of the turns may stand behind the ends
+  abbrev pub ClosesWith : (turns line : List ℕ) → Type 0
+  ClosesWith turns line = (schedule : List (ℕ × ℕ)) → turns_of schedule ≡ turns
+      → Closes m.programs (own_here m) asked limit wrote.ends verdict.Bad (schedule_text limit schedule ++ line)
+
   -- the search goes on, and nothing more is written
   pub wrote_on : (s2 : Search) → s2.root ≡ s.root → s2.told ≡ s.told → sought s2 ≡ sought s → Wrote m asked limit s2 old mid
   wrote_on s2 root told same = record {
@@ -106,30 +114,35 @@ module _ (m : Machine) (asked : Sought) (limit : ℕ) (s : Search) (old mid : Op
     bad_is : s2.bad ≡ asked.bad
     bad_is = ap (λ (x : Sought). x.bad) (same ∙ wrote.same)
 
+    never_is : s2.never ≡ asked.never
+    never_is = ap (λ (x : Sought). x.never) (same ∙ wrote.same)
+
     part_is : s2.part ≡ asked.part
     part_is = ap (λ (x : Sought). x.part) (same ∙ wrote.same)
 
     -- what it says where it met all
     pub says_all : (worlds : ℕ) (endless : Bool) → TellsPart (next.All endless) s2 → TellsAll (next.All endless) s2 → TellsNone (next.All endless) s2
-        → TellsEndless (next.All endless) s2 → Says verdict.Done endless m.programs (own_here m) asked worlds wrote.ends
-    says_all worlds endless known all none round = (says, says_endless endless round)
+        → TellsClear (next.All endless) s2 → TellsEndless (next.All endless) s2 → Says verdict.Done endless m.programs (own_here m) asked worlds wrote.ends
+    says_all worlds endless known all none clear round = (says, says_endless endless round)
       where
         says_endless : (e : Bool) → TellsEndless (next.All e) s2 → SaysEndless e m.programs (own_here m) asked.part
         says_endless true round = round m still (root ∙ wrote.began)
         says_endless false round = λ only. round (subst IsOnly (sym part_is) only) m still (root ∙ wrote.began)
 
-        known_here : IsKnown m asked.part states asked.bad endless
+        known_here : IsKnown m asked.part states asked.bad asked.never endless
         known_here =
-            subst (λ ends. IsKnown m asked.part ends asked.bad endless) (told ∙ wrote.told)
-            (subst (λ part. IsKnown m part s2.told asked.bad endless) part_is
-            (subst (λ bad. IsKnown m s2.part s2.told bad endless) bad_is (known m still (root ∙ wrote.began))))
+            subst (λ ends. IsKnown m asked.part ends asked.bad asked.never endless) (told ∙ wrote.told)
+            (subst (λ part. IsKnown m part s2.told asked.bad asked.never endless) part_is
+            (subst (λ bad. IsKnown m s2.part s2.told bad asked.never endless) bad_is
+            (subst (λ never. IsKnown m s2.part s2.told s2.bad never endless) never_is (known m still (root ∙ wrote.began)))))
 
         says : SaysAll m.programs (own_here m) asked endless wrote.ends
         says = record {
           all = λ only turns last leads nobody. subst (λ ends. IsIn ends (told_in last)) (told ∙ wrote.told)
               (all (subst IsOnly (sym part_is) only) m still (root ∙ wrote.began) turns last leads nobody);
           none = λ only. subst (HasNone m.programs (own_here m)) bad_is (none (subst IsOnly (sym part_is) only) m still (root ∙ wrote.began));
-          known = λ other programs own. subst (λ (x : Machine). IsKnown x asked.part states asked.bad endless) (sym (same_machine other m programs own))
+          clear = λ only. subst (StaysClear m.programs (own_here m)) never_is (clear (subst IsOnly (sym part_is) only) m still (root ∙ wrote.began));
+          known = λ other programs own. subst (λ (x : Machine). IsKnown x asked.part states asked.bad asked.never endless) (sym (same_machine other m programs own))
               known_here;
           good = wrote.good;
         }
@@ -139,21 +152,30 @@ module _ (m : Machine) (asked : Sought) (limit : ℕ) (s : Search) (old mid : Op
     says_cut cut = subst (λ (most : ℕ). most ≤ s2.worlds) (ap (λ (x : Sought). x.most) (same ∙ wrote.same)) cut
 
   -- the lines of a turn that may not be
-  module _ (t : BadTurn) (still : IsStill (own_here m)) (leads : Leads (Some (next.Bad t)) s) where
-    closes_turn : (text : List ℕ) → PushesTurn limit t [] text → Closes m.programs (own_here m) asked limit wrote.ends verdict.Bad text
-    closes_turn text pushes =
-        subst (Closes m.programs (own_here m) asked limit wrote.ends verdict.Bad) (sym pushes.is)
-        (bad_turn t.bad (subst (λ (x : List Bad). IsIn x t.bad) (ap (λ (x : Sought). x.bad) wrote.same) leads.is_in) pushes.schedule
-        (subst (λ turns. IsBadOrder m.programs (own_here m) turns t.bad) (sym pushes.turns) (leads.leads m still wrote.began)))
+  pub closes_turn : (t : BadTurn) → IsStill (own_here m) → Leads (Some (next.Bad t)) s → ClosesWith t.turns.items (bad_line t.bad)
+  closes_turn t still leads schedule turns =
+      bad_turn t.bad (subst (λ (x : List Bad). IsIn x t.bad) (ap (λ (x : Sought). x.bad) wrote.same) leads.is_in) schedule
+      (subst (λ turns. IsBadOrder m.programs (own_here m) turns t.bad) (sym turns) (leads.leads m still wrote.began))
+
+  -- those of a world that may not be
+  pub closes_world : (w : BadWorld) → IsStill (own_here m) → Leads (Some (next.BadWorld w)) s → ClosesWith w.turns.items (together_line w.together.items)
+  closes_world w still leads schedule turns =
+      bad_world w.together.items (subst (λ (x : List (List Bad)). IsIn x w.together.items) (ap (λ (x : Sought). x.never) wrote.same) leads.is_in) schedule
+      (subst (λ turns. IsBadWorld m.programs (own_here m) turns w.together.items) (sym turns) (leads.leads m still wrote.began))
+
+  module _ (turns line : List ℕ) (closes : ClosesWith turns line) where
+    closes_text : (text : List ℕ) → PushesTurns limit turns line [] text → Closes m.programs (own_here m) asked limit wrote.ends verdict.Bad text
+    closes_text text pushes =
+        subst (Closes m.programs (own_here m) asked limit wrote.ends verdict.Bad) (sym pushes.is) (closes pushes.schedule pushes.are)
 
     module _ (count : ℕ) (counted : count ≡ length s.told) (worlds : ℕ) (new : Option (List ℕ)) where
-      pub turn_written : (v : Verdict) → WritesTurn limit t worlds count mid new v → WritesEnds m.programs (own_here m) asked limit v old new
-      turn_written _ (turn text pushes written) = rest_written verdict.Bad text (closes_turn text pushes) new written
-      turn_written _ (no_turn last) = last_written count counted verdict.Memory false worlds tt new last
+      pub turns_written : (v : Verdict) → WritesTurns limit turns line worlds count mid new v → WritesEnds m.programs (own_here m) asked limit v old new
+      turns_written _ (all_turns text pushes written) = rest_written verdict.Bad text (closes_text text pushes) new written
+      turns_written _ (no_turns last) = last_written count counted verdict.Memory false worlds tt new last
 
-      pub turn_begins : BeginsTurn limit t worlds count mid new → BeginsEnds m.programs (own_here m) asked limit old new
-      turn_begins (turn_begun text pushes begun) = rest_begun verdict.Bad text (closes_turn text pushes) new begun
-      turn_begins (no_turn_begun last) = last_begun count counted verdict.Memory false worlds tt new last
+      pub turns_begin : BeginsTurns limit turns line worlds count mid new → BeginsEnds m.programs (own_here m) asked limit old new
+      turns_begin (turns_begun text pushes begun) = rest_begun verdict.Bad text (closes_text text pushes) new begun
+      turns_begin (no_turns_begun last) = last_begun count counted verdict.Memory false worlds tt new last
 
   module _ (s2 : Search) (e : Told) (still : IsStill (own_here m)) (root : s2.root ≡ s.root)
       (same : sought s2 ≡ sought s) (told : Tells (Some (next.End e)) s.told s2.told) (leads : Leads (Some (next.End e)) s) where

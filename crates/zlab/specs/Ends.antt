@@ -6,13 +6,13 @@ use Rattle.std.specs.List.{flat_map}
 use Rattle.zl_code.specs.Common.{Library}
 use Rattle.zl_code.specs.Own.{OwnWorld}
 use Rattle.zl_code.specs.declared.history.ProcState.{ProcState}
-use Rattle.zl_explore.specs.Bad.{FitsOne, IsGoodEnd, NamesEnd, words_of}
+use Rattle.zl_explore.specs.Bad.{FitsOne, IsGoodEnd, NamesEnd, together_words, words_of}
 use Rattle.zl_calls.specs.World.{Machine, own_here}
 use Rattle.zl_explore.specs.Part.{IsOnly, Part}
 use Rattle.zl_explore.specs.Paths.{IsIn}
 use Rattle.zl_explore.specs.Searching.{AreAll, HasNone, IsBadOrder, IsEnd, IsEndless, IsKnown, Search}
+use Rattle.zl_explore.specs.Sights.{IsBadWorld, StaysClear}
 use Rattle.zl_explore.specs.declared.bad.Bad.{Bad}
-use Rattle.zl_explore.specs.declared.ends.BadTurn.{BadTurn}
 use Rattle.zl_explore.specs.declared.ends.End.{End as Told}
 use Rattle.zl_sched.specs.Follows.{turns_of}
 use Rattle.zl_trace.specs.Output.{AppendsBeginning}
@@ -30,18 +30,19 @@ pub record End : Type 0 where
 abbrev pub IsEndFrom : Library → OwnWorld → End → Type 0
 IsEndFrom lib o e = IsEnd lib o (turns_of e.schedule) e.states
 
--- what is asked of a search: what no order may have, of which part the orders are, and how many worlds there may be
+-- what is asked of a search: what no order may have, what may not be so at once, of which part the orders are, and how many worlds there may be
 pub record Sought : Type 0 where
   pub bad : List Bad
+  pub never : List (List Bad)
   pub part : Part
   pub most : ℕ
 
 -- that of the words / that of a search
 abbrev pub sought_by : Asked → Sought
-sought_by a = record { bad = a.bad.items; part = a.part; most = a.worlds }
+sought_by a = record { bad = a.never.bad.items; never = map (λ one. one.items) a.never.together.items; part = a.part; most = a.worlds }
 
 abbrev pub sought : Search → Sought
-sought s = record { bad = s.bad; part = s.part; most = s.most }
+sought s = record { bad = s.bad; never = s.never; part = s.part; most = s.most }
 
 -- ---- lines
 
@@ -64,6 +65,10 @@ end_text limit e = codes "end\n" ++ (flat_map (λ p. state_line p.0 p.1) e.state
 -- the last line of a search that met what the pattern names
 abbrev pub bad_line : Bad → List ℕ
 bad_line b = codes "bad " ++ (words_of b ++ codes "\n")
+
+-- the same of patterns that name what is so at once
+abbrev pub together_line : List Bad → List ℕ
+together_line together = codes "bad " ++ (together_words together ++ codes "\n")
 
 -- the last line: how far the search came, and what it counted
 abbrev pub last_line : List ℕ → (worlds turns ends : ℕ) → List ℕ
@@ -90,15 +95,16 @@ abbrev pub SaysEndless : Bool → Library → OwnWorld → Part → Type 0
 SaysEndless true lib o part = IsEndless lib o
 SaysEndless false lib o part = IsOnly part → IsEndless lib o → ⊥
 
--- every order that comes to an end comes to one of these, none of which a pattern names, and no order has an item that one names; of a
--- part that is known of its own orders
+-- every order that comes to an end comes to one of these, none of which a pattern names, no order has an item that one names, and none leads
+-- to a world in which what may not be so at once is seen; of a part that is known of its own orders
 pub record SaysAll (lib : Library) (o : OwnWorld) (asked : Sought) (endless : Bool) (ends : List End) : Type 0 where
   pub all : IsOnly asked.part → AreAll lib o (map (λ e. e.states) ends)
   pub none : IsOnly asked.part → HasNone lib o asked.bad
-  pub known : (m : Machine) → m.programs ≡ lib → own_here m ≡ o → IsKnown m asked.part (map (λ e. e.states) ends) asked.bad endless
+  pub clear : IsOnly asked.part → StaysClear lib o asked.never
+  pub known : (m : Machine) → m.programs ≡ lib → own_here m ≡ o → IsKnown m asked.part (map (λ e. e.states) ends) asked.bad asked.never endless
   pub good : (e : End) → IsIn ends e → IsGoodEnd asked.bad e.states
 
--- what a last line with counts says of the ends above it; it is cut only where as many worlds were met as there may be
+-- what a last line with counts says of the ends above it; where it is cut, as many worlds were met as there may be
 abbrev pub Says : Verdict → Bool → Library → OwnWorld → Sought → (worlds : ℕ) → List End → Type 0
 Says verdict.Done endless lib o asked worlds ends = SaysAll lib o asked endless ends × SaysEndless endless lib o asked.part
 Says verdict.Cut false lib o asked worlds ends = asked.most ≤ worlds
@@ -106,7 +112,7 @@ Says verdict.Memory false lib o asked worlds ends = Unit {0}
 Says _ _ lib o asked worlds ends = ⊥
 
 -- what stands behind the ends: counts, or the pattern that names what an order has, which is the last of these, or an item of the last
--- turn of a schedule
+-- turn of a schedule; or the patterns that name what is so at once where a schedule leads
 pub data Closes (lib : Library) (o : OwnWorld) (asked : Sought) (limit : ℕ) (ends : List End) : Verdict → List ℕ → Type 0 where
   counts : (v : Verdict) (endless : Bool) (worlds turns : ℕ) → Says v endless lib o asked worlds ends
       → Closes lib o asked limit ends v (endless_line endless ++ last_line (verdict_word v) worlds turns (length ends))
@@ -114,6 +120,8 @@ pub data Closes (lib : Library) (o : OwnWorld) (asked : Sought) (limit : ℕ) (e
       → Closes lib o asked limit ends verdict.Bad (bad_line b)
   bad_turn : (b : Bad) → IsIn asked.bad b → (schedule : List (ℕ × ℕ)) → IsBadOrder lib o (turns_of schedule) b
       → Closes lib o asked limit ends verdict.Bad (schedule_text limit schedule ++ bad_line b)
+  bad_world : (together : List Bad) → IsIn asked.never together → (schedule : List (ℕ × ℕ)) → IsBadWorld lib o (turns_of schedule) together
+      → Closes lib o asked limit ends verdict.Bad (schedule_text limit schedule ++ together_line together)
 
 -- the lines are those of a search over all orders from the world
 pub record IsSearchText (lib : Library) (o : OwnWorld) (asked : Sought) (limit : ℕ) (v : Verdict) (lines : List ℕ) : Type 0 where
@@ -143,11 +151,11 @@ pub record PushesEnd (limit : ℕ) (e : Told) (old new : List ℕ) : Type 0 wher
   pub turns : turns_of schedule ≡ e.turns.items
   pub is : new ≡ old ++ end_text limit (record { states = e.states.items; schedule = schedule })
 
--- the lines of the turn were added, with a schedule of its turns
-pub record PushesTurn (limit : ℕ) (t : BadTurn) (old new : List ℕ) : Type 0 where
+-- a schedule of the turns was added, and the last line behind it
+pub record PushesTurns (limit : ℕ) (turns line old new : List ℕ) : Type 0 where
   pub schedule : List (ℕ × ℕ)
-  pub turns : turns_of schedule ≡ t.turns.items
-  pub is : new ≡ old ++ (schedule_text limit schedule ++ bad_line t.bad)
+  pub are : turns_of schedule ≡ turns
+  pub is : new ≡ old ++ (schedule_text limit schedule ++ line)
 
 -- the writer got such a last line
 pub record WritesLast (endless : Bool) (word : List ℕ) (worlds ends : ℕ) (old new : Option (List ℕ)) : Type 0 where
@@ -173,12 +181,12 @@ pub data BeginsEnd (bad : List Bad) (limit : ℕ) (e : Told) (worlds ends : ℕ)
       → AppendsBeginning old new (text ++ bad_line b) → BeginsEnd bad limit e worlds ends old new
   no_end_begun : BeginsLast false (codes "memory") worlds ends old new → BeginsEnd bad limit e worlds ends old new
 
--- the writer got the lines of the turn, or only that memory was refused
-pub data WritesTurn (limit : ℕ) (t : BadTurn) (worlds ends : ℕ) (old new : Option (List ℕ)) : Verdict → Type 0 where
-  turn : (text : List ℕ) → PushesTurn limit t [] text → Appends old new text → WritesTurn limit t worlds ends old new verdict.Bad
-  no_turn : WritesLast false (codes "memory") worlds ends old new → WritesTurn limit t worlds ends old new verdict.Memory
+-- the writer got a schedule of the turns with the last line behind it, or only that memory was refused
+pub data WritesTurns (limit : ℕ) (turns line : List ℕ) (worlds ends : ℕ) (old new : Option (List ℕ)) : Verdict → Type 0 where
+  all_turns : (text : List ℕ) → PushesTurns limit turns line [] text → Appends old new text → WritesTurns limit turns line worlds ends old new verdict.Bad
+  no_turns : WritesLast false (codes "memory") worlds ends old new → WritesTurns limit turns line worlds ends old new verdict.Memory
 
 -- the writer got a beginning of such lines, or nothing
-pub data BeginsTurn (limit : ℕ) (t : BadTurn) (worlds ends : ℕ) (old new : Option (List ℕ)) : Type 0 where
-  turn_begun : (text : List ℕ) → PushesTurn limit t [] text → AppendsBeginning old new text → BeginsTurn limit t worlds ends old new
-  no_turn_begun : BeginsLast false (codes "memory") worlds ends old new → BeginsTurn limit t worlds ends old new
+pub data BeginsTurns (limit : ℕ) (turns line : List ℕ) (worlds ends : ℕ) (old new : Option (List ℕ)) : Type 0 where
+  turns_begun : (text : List ℕ) → PushesTurns limit turns line [] text → AppendsBeginning old new text → BeginsTurns limit turns line worlds ends old new
+  no_turns_begun : BeginsLast false (codes "memory") worlds ends old new → BeginsTurns limit turns line worlds ends old new

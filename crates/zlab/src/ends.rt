@@ -6,14 +6,14 @@ ghost use Rattle.zl_explore.specs.Private.{IsStill};
 ghost use Rattle.zl_explore.specs.Searching.{BeganWith};
 ghost use Rattle.zl_sched.specs.Follows.{turns_of};
 ghost use Rattle.zl_trace.specs.Text.{state_line};
-ghost use Rattle.zlab.specs.Ends.{BeginsEnd, BeginsEnds, BeginsLast, BeginsTurn, PushesEnd, PushesTurn, WritesEnd, WritesEnds, WritesLast, WritesTurn, bad_line, by_line, endless_line, sought, sought_by, turn_line, verdict_word};
+ghost use Rattle.zlab.specs.Ends.{BeginsEnd, BeginsEnds, BeginsLast, BeginsTurns, PushesEnd, PushesTurns, WritesEnd, WritesEnds, WritesLast, WritesTurns, bad_line, by_line, endless_line, sought, sought_by, together_line, turn_line, verdict_word};
 
 use crate::fault::{EngineFault, Verdict};
 use std::alloc::{AllocError, Global};
 use std::io::Write;
 use zl_calls::World;
 use zl_code::ProcState;
-use zl_explore::{Bad, BadTurn, End, Next, Part, Search, named_end};
+use zl_explore::{Bad, BadTurn, BadWorld, End, Never, Next, Part, Search, named_end, push_together};
 use zl_rights::Pid;
 use zl_trace::{empty_block, push_state, write_all};
 
@@ -21,7 +21,7 @@ use zl_trace::{empty_block, push_state, write_all};
 #[derive(Drop)]
 pub struct Sought {
     /// What no order may have.
-    pub bad: Vec<Bad>,
+    pub never: Never,
     /// Of which part the orders are.
     pub part: Part,
     /// How many worlds there may be.
@@ -57,8 +57,12 @@ pub fn write_ends<W: Write, P: Progress>(
     ensures fault { IfErr result (λ fault. fault ≢ EngineFault.Read) }
 {
     let mut text = empty_block(alloc)?;
-    let Sought { bad, part, worlds } = asked;
-    let mut search = Search::new(alloc, world, bad, part, worlds as usize)?;
+    let Sought {
+        never,
+        part,
+        worlds,
+    } = asked;
+    let mut search = Search::new(alloc, world, never, part, worlds as usize)?;
     write_found(alloc, writer, progress, &mut text, &mut search, limit)
 }
 
@@ -89,6 +93,7 @@ fn write_found<W: Write, P: Progress>(
                 continue;
             }
             Next::Bad(turn) => return write_turn(alloc, writer, text, search, &turn, limit, ends),
+            Next::BadWorld(at) => return write_world(alloc, writer, text, search, &at, limit, ends),
             Next::All { endless } => {
                 return write_last(writer, text, search, Verdict::Done, endless, ends);
             }
@@ -145,14 +150,39 @@ fn write_turn<W: Write>(
     limit: u64,
     ends: usize,
 ) -> Result<Verdict, EngineFault>
-    ensures ok { IfOk result (WritesTurn limit turn.now search.now.worlds ends (W.contents writer.old)
-        (W.contents writer.new)) }
-    ensures err { OnErr result (BeginsTurn limit turn.now search.now.worlds ends (W.contents writer.old)
-        (W.contents writer.new)) }
+    ensures ok { IfOk result (WritesTurns limit turn.now.turns.items (bad_line turn.now.bad)
+        search.now.worlds ends (W.contents writer.old) (W.contents writer.new)) }
+    ensures err { OnErr result (BeginsTurns limit turn.now.turns.items (bad_line turn.now.bad)
+        search.now.worlds ends (W.contents writer.old) (W.contents writer.new)) }
     ensures fault { IfErr result (λ fault. fault ≢ EngineFault.Read) }
 {
     text.clear();
     if push_turn(alloc, text, turn, limit).is_err() {
+        return write_memory(writer, text, search, ends);
+    }
+    write_all(writer, text.as_bytes())?;
+    Ok(Verdict::Bad)
+}
+
+/// Writes a schedule that leads to a world which may not be, and the last line, behind so many ends and in
+/// place of what stands in the text. Where memory is refused, the last line alone says so.
+fn write_world<W: Write>(
+    alloc: Global,
+    writer: &mut W,
+    text: &mut String,
+    search: &Search,
+    at: &BadWorld,
+    limit: u64,
+    ends: usize,
+) -> Result<Verdict, EngineFault>
+    ensures ok { IfOk result (WritesTurns limit at.now.turns.items (together_line at.now.together.items)
+        search.now.worlds ends (W.contents writer.old) (W.contents writer.new)) }
+    ensures err { OnErr result (BeginsTurns limit at.now.turns.items (together_line at.now.together.items)
+        search.now.worlds ends (W.contents writer.old) (W.contents writer.new)) }
+    ensures fault { IfErr result (λ fault. fault ≢ EngineFault.Read) }
+{
+    text.clear();
+    if push_world(alloc, text, at, limit).is_err() {
         return write_memory(writer, text, search, ends);
     }
     write_all(writer, text.as_bytes())?;
@@ -242,13 +272,27 @@ fn push_end(alloc: Global, text: &mut String, end: &End, limit: u64) -> Result<(
 /// Adds the schedule of a turn that no order may have, and the last line behind it. Where memory is refused, a
 /// beginning of them may stand there.
 fn push_turn(alloc: Global, text: &mut String, turn: &BadTurn, limit: u64) -> Result<(), AllocError>
-    ensures { OnOk result (PushesTurn limit turn.now (string_bytes text.old)
-        (string_bytes text.new)) }
+    ensures { OnOk result (PushesTurns limit turn.now.turns.items (bad_line turn.now.bad)
+        (string_bytes text.old) (string_bytes text.new)) }
 {
     let schedule = grouped(alloc, &turn.turns)?;
     push_by(text, turn.turns.len() as u64, limit)?;
     push_schedule(text, &schedule)?;
     push_bad(text, turn.bad)
+}
+
+/// Adds the schedule that leads to a world which may not be, and the last line behind it. Where memory is
+/// refused, a beginning of them may stand there.
+fn push_world(alloc: Global, text: &mut String, at: &BadWorld, limit: u64) -> Result<(), AllocError>
+    ensures { OnOk result (PushesTurns limit at.now.turns.items (together_line at.now.together.items)
+        (string_bytes text.old) (string_bytes text.new)) }
+{
+    let schedule = grouped(alloc, &at.turns)?;
+    push_by(text, at.turns.len() as u64, limit)?;
+    push_schedule(text, &schedule)?;
+    text.push_str("bad ")?;
+    push_together(text, &at.together)?;
+    text.push_str("\n")
 }
 
 /// Adds the last line of a search that met what a pattern names.

@@ -42,7 +42,7 @@ use std::{env, io};
 use tasks::{assemble, check, explore, replay, run_threads, show, step, step_files};
 use thiserror::Error;
 use zl_command::{Asked, Task, WordFault};
-use zl_explore::{Bad, Part, read_bad, read_part};
+use zl_explore::{Never, Part, read_part};
 use zl_hints::{explain_bad, explain_words};
 
 /// Why the program ends without an answer.
@@ -135,31 +135,27 @@ fn run<R: AllocGlobal + Env + Eprint + Files + Input + Print + Threads + Wait + 
                 from,
             },
         ) => {
-            let bad = patterns(rt.alloc(), hints, &bad)?;
-            let part = part_asked(rt.alloc(), hints, part, from)?;
-            explore(rt, hints, scenario, Sought { bad, part, worlds })
+            let asked = Sought {
+                never: never_asked(rt.alloc(), hints, &bad)?,
+                part: part_asked(rt.alloc(), hints, part, from)?,
+                worlds,
+            };
+            explore(rt, hints, scenario, asked)
         }
     };
     Ok(ended?)
 }
 
-/// The patterns with these words; words that are none are a wrong command line.
-fn patterns(alloc: Global, hints: &mut String, words: &[&str]) -> Result<Vec<Bad>, WordFault> {
-    let mut bad = Vec::with_capacity(alloc, words.len())?;
+/// What these words say that no order may have; words that say nothing are a wrong command line.
+fn never_asked(alloc: Global, hints: &mut String, words: &[&str]) -> Result<Never, WordFault> {
+    let mut never = Never::new(alloc);
     for one in words {
-        match read_bad(alloc, one)? {
-            Some(pattern) => {
-                let Ok(()) = bad.push(pattern) else {
-                    return Err(WordFault::NoMemory);
-                };
-            }
-            None => {
-                explain_bad(hints, alloc, one.as_bytes());
-                return Err(WordFault::Usage);
-            }
+        if !never.read(alloc, one)? {
+            explain_bad(hints, alloc, one.as_bytes());
+            return Err(WordFault::Usage);
         }
     }
-    Ok(bad)
+    Ok(never)
 }
 
 /// The part with these words, and the only one where there are none; words that are none are a wrong command

@@ -14,10 +14,10 @@ write_found-requires g c = c.in_ok-search.ensures.told
 
 pub returns-clause-ok : goal.returns-clause-ok
 returns-clause-ok g c = mapped_ok c.write_found.result _ _
-    (λ v wrote. rw (c.in_ok-search.ensures.bad, c.in_ok-search.ensures.part, c.in_ok-search.ensures.most) at
+    (λ v wrote. rw (c.in_ok-search.ensures.bad, c.in_ok-search.ensures.never, c.in_ok-search.ensures.part, c.in_ok-search.ensures.most) at
     (wrote c.args.world c.requires c.in_ok-search.ensures.root)) c.write_found.ensures.ok
 
 pub returns-clause-err : goal.returns-clause-err
 returns-clause-err g c = mapped_err c.write_found.result _ _
-    (λ begun. rw (c.in_ok-search.ensures.bad, c.in_ok-search.ensures.part, c.in_ok-search.ensures.most) at
+    (λ begun. rw (c.in_ok-search.ensures.bad, c.in_ok-search.ensures.never, c.in_ok-search.ensures.part, c.in_ok-search.ensures.most) at
     (begun c.args.world c.requires c.in_ok-search.ensures.root)) c.write_found.ensures.err

@@ -5,7 +5,7 @@ use Rattle.zl_explore.specs.Paths.{IsIn}
 use Rattle.zl_explore.specs.declared.ends.End.{End}
 use Rattle.zl_explore.specs.declared.ends.Next.TheVariants as next
 use Rattle.zl_explore.specs.declared.kept.Kept.{Kept}
-use Rattle.zl_explore.proofs.Keeping.{end_states, end_told, whole_ended}
+use Rattle.zl_explore.proofs.Keeping.{end_states, end_told, memory_goes, whole_ended}
 use Rattle.zl_explore.proofs.kept.Kept.end_here.Goals as goal
 
 pub turns_to-requires-clause-within : goal.turns_to-requires-clause-within
@@ -18,7 +18,7 @@ returns-in_default-found c =
     let other = end_states old.nodes.items old.widened c.requires.end None (rw c.in_default-found.is at (c.in-Ok.ensures {u = tt})) in
     subst (λ new. Goes old None new) (sym c.move_on.ensures) (record {
       whole = whole_ended _ _ c.requires.whole refl refl refl refl refl refl c.requires.end c.requires.whole.told
-          (λ of. absurd (false≢true (sym other ∙ of)));
+          (λ of. absurd (false≢true (sym other ∙ of))) c.requires.clear;
       root = refl;
       part = refl;
       told = refl;
@@ -26,7 +26,7 @@ returns-in_default-found c =
       moves = refl;
       most = refl;
       cut = tt;
-      bad = refl;
+      never = refl;
     })
 
 pub returns-then-is_told : goal.returns-then-is_told
@@ -38,7 +38,7 @@ returns-then-is_told c =
     rw (c.deref-2.ensures.value, c.deref-3.ensures.value) at (c.is_told.ensures c.if-is_told.true) in
     subst (λ new. Goes old None new) (sym c.move_on-then-is_told.ensures) (record {
       whole = whole_ended _ _ c.requires.whole refl refl refl refl refl refl c.requires.end c.requires.whole.told
-          (λ of. subst (IsIn (told_of old)) is.1 inside);
+          (λ of. subst (IsIn (told_of old)) is.1 inside) c.requires.clear;
       root = refl;
       part = refl;
       told = refl;
@@ -46,8 +46,13 @@ returns-then-is_told c =
       moves = refl;
       most = refl;
       cut = tt;
-      bad = refl;
+      never = refl;
     })
+
+pub returns-in_default-keep_told : goal.returns-in_default-keep_told
+returns-in_default-keep_told c =
+    memory_goes c.args.self.now _ c.requires.whole c.keep_told.ensures.root c.keep_told.ensures.part c.keep_told.ensures.never c.keep_told.ensures.nodes
+    c.keep_told.ensures.course c.keep_told.ensures.widened c.keep_told.ensures.most (c.in_default-keep_told.ensures {u = tt}).err
 
 pub returns : goal.returns
 returns c =
@@ -58,6 +63,6 @@ returns c =
     subst (λ (new : Kept). Goes old (Some (next.End end)) new) (sym c.move_on-2.ensures)
     (end_told old (moved_on c.keep_told.new.self) c.requires.whole c.requires.end end c.in-Ok-turns_to.turns.items
     is (c.in-Ok-turns_to.ensures {u = tt}) (rw c.deref-4.ensures.value at (c.in-Ok-taken_by.ensures {u = tt}))
-    c.keep_told.ensures.root c.keep_told.ensures.part c.keep_told.ensures.bad c.keep_told.ensures.nodes c.keep_told.ensures.course (ap (λ n. n + 1)
+    c.keep_told.ensures.root c.keep_told.ensures.part c.keep_told.ensures.never c.requires.clear c.keep_told.ensures.nodes c.keep_told.ensures.course (ap (λ n. n + 1)
     c.keep_told.ensures.widened) c.keep_told.ensures.most
     (rw c.deref-5.ensures.value at (c.in-Ok-keep_told.ensures {u = tt}).ok))

@@ -20,7 +20,8 @@ returns-in-Ok-All c =
     subst (λ new. Goes old None new) (sym c.move_on.ensures) (record {
       whole = whole_widened _ _ c.requires.whole refl refl refl c.widen.ensures.tree c.widen.ensures.edges c.widen.ensures.more_edges
           c.widen.ensures.extends refl refl
-          widens.0 widens.1 (rw c.in-Ok-All.field-0-is at told.have_edges) n there
+          widens.0 widens.1 (rw c.in-Ok-All.field-0-is at told.have_edges)
+          (rw c.in-Ok-None.field-0-is at (c.in-Ok-None.ensures {u = tt})) n there
           (λ none. omega (arith, filled, ap length (ready ∙ none)));
       root = refl;
       part = refl;
@@ -29,7 +30,7 @@ returns-in-Ok-All c =
       moves = refl;
       most = refl;
       cut = tt;
-      bad = refl;
+      never = refl;
     })
 
 pub returns-in-Ok-Full : goal.returns-in-Ok-Full
@@ -43,7 +44,7 @@ returns-in-Ok-Full c = record {
   moves = tt;
   most = refl;
   cut = (c.in-Ok-Full.ensures {u = tt}).full c.in-Ok-Full.field-0-is;
-  bad = refl;
+  never = refl;
 }
 
 pub returns : goal.returns
@@ -57,7 +58,7 @@ returns c = record {
   moves = tt;
   most = refl;
   cut = tt;
-  bad = refl;
+  never = refl;
 }
 
 pub bad_turn-requires-clause-whole : goal.bad_turn-requires-clause-whole

@@ -1,0 +1,74 @@
+-- What may not be so in one world, at once.
+use Rattle.std.specs.Prelude.{ℕ, ◌≡◌, ◌<◌, Bool, List, map, Option, None, Some, slice_get, IsTrue}
+use Rattle.zl_rights.specs.Common.{bits, Process}
+use Rattle.zl_code.specs.declared.history.ProcState.{ProcState}
+use Rattle.zl_code.specs.Image.{Library}
+use Rattle.zl_code.specs.Own.{OwnWorld}
+use Rattle.zl_calls.specs.World.{has_of, seen_of}
+use Rattle.zl_explore.specs.Bad.{IsOne, IsState}
+use Rattle.zl_explore.specs.Orders.{OwnTurns}
+use Rattle.zl_explore.specs.Part.{Part, gone_of, goes_on}
+use Rattle.zl_explore.specs.Paths.{IsIn, IsPath, after}
+use Rattle.zl_explore.specs.declared.bad.Bad.{Bad}
+use Rattle.zl_explore.specs.declared.bad.What.{What}
+use Rattle.zl_explore.specs.declared.bad.What.TheVariants as what
+use Rattle.zl_explore.specs.declared.met.Node.{Node}
+use Rattle.zl_explore.specs.declared.part.Parted.{Parted}
+
+-- what is seen of a process: what it is in, and of which objects it has handles, with which rights at least
+abbrev pub Sight : Type 0
+Sight = ProcState × (ℕ → ℕ → Bool)
+
+-- so of the process that was looked up
+abbrev pub sight_of : Option Process → Sight
+sight_of found = (seen_of found, has_of found)
+
+-- so of each process of a world, by koid
+abbrev pub sights_in : OwnWorld → List (ℕ × Sight)
+sights_in o = map (λ e. (e.0, sight_of (Some e.1))) o.world.processes
+
+-- this is what the process is in, or has
+abbrev pub IsSo : What → Sight → Type 0
+IsSo (what.Has koid rights) s = IsTrue (s.1 koid (bits rights))
+IsSo w s = IsState w s.0
+
+-- the pattern names one of these processes
+pub record IsSeen (b : Bad) (sights : List (ℕ × Sight)) : Type 0 where
+  pub process : ℕ × Sight
+  pub is_in : IsIn sights process
+  pub is_one : IsOne b.pid process.0
+  pub is_so : IsSo b.what process.1
+
+-- each of these patterns does, at once
+abbrev pub AreSeen : List Bad → List (ℕ × Sight) → Type 0
+AreSeen together sights = (b : Bad) → IsIn together b → IsSeen b sights
+
+-- none of these lists of patterns does
+abbrev pub IsClear : List (List Bad) → List (ℕ × Sight) → Type 0
+IsClear never sights = (together : List Bad) → IsIn never together → AreSeen together sights → ⊥
+
+-- this one of them does, or none
+abbrev pub Sees : List (List Bad) → List (ℕ × Sight) → Option (List Bad) → Type 0
+Sees never sights (Some together) = IsIn never together × AreSeen together sights
+Sees never sights None = IsClear never sights
+
+-- ---- orders
+
+-- own steps of these processes, one after another, lead to a world in which the patterns are seen at once
+pub record IsBadWorld (lib : Library) (o : OwnWorld) (turns : List ℕ) (together : List Bad) : Type 0 where
+  pub last : OwnWorld
+  pub leads : OwnTurns lib o turns last
+  pub seen : AreSeen together (sights_in last)
+
+-- no order of own steps, of any length, leads to a world in which all that is listed together is seen at once
+abbrev pub StaysClear : Library → OwnWorld → List (List Bad) → Type 0
+StaysClear lib o never = (turns : List ℕ) (together : List Bad) → IsIn never together → IsBadWorld lib o turns together → ⊥
+
+-- none of the orders of a part leads to such a state
+abbrev pub StaysClearOf : {S : Type 0} → (S → List ℕ) → (S → ℕ → S) → (start : S) → Part → (S → List (ℕ × Sight)) → List (List Bad) → Type 0
+StaysClearOf ready next start part sights never = (turns : List ℕ) → IsPath ready next start turns → IsTrue (goes_on part (gone_of part turns))
+    → IsClear never (sights (after ready next start turns))
+
+-- none of the first count states that were met is such a one
+abbrev pub AreClear : {S : Type 0} → (S → List (ℕ × Sight)) → List (List Bad) → List (Node (Parted S)) → ℕ → Type 0
+AreClear {S} sights never nodes count = (i : ℕ) (n : Node (Parted S)) → i < count → slice_get nodes i ≡ Some n → IsClear never (sights n.at.at)

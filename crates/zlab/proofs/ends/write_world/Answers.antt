@@ -1,0 +1,23 @@
+use Rattle.zlab.proofs.Answering.{both_ok, mapped_err}
+use Rattle.zlab.proofs.Common.{[], on_err, sym, ◌∙◌}
+use Rattle.std.specs.Prelude.{string_bytes}
+use Rattle.zlab.proofs.SearchText.{when_ok}
+use Rattle.zlab.specs.Ends.{PushesTurns, all_turns, no_turns, together_line, turns_begun}
+use Rattle.zlab.proofs.ends.write_world.Goals as goal
+
+pub returns-then-is_err-clause-ok : goal.returns-then-is_err-clause-ok
+returns-then-is_err-clause-ok g c =
+    both_ok c.write_memory.result _ _ _ (λ v is last. rw is (no_turns last)) c.write_memory.ensures.verdict c.write_memory.ensures.ok
+
+pub returns-in_err-write_all-clause-err : goal.returns-in_err-write_all-clause-err
+returns-in_err-write_all-clause-err g c =
+    let pushes : PushesTurns c.args.limit c.args.at.now.turns.items (together_line c.args.at.now.together.items) [] (string_bytes c.push_world.new.text) =
+    rw c.clear.ensures.bytes at (when_ok c.push_world.result (sym c.is_err.ensures.value ∙ c.if-is_err.false) c.push_world.ensures) in
+    on_err c.from_residual.result
+    (turns_begun (string_bytes c.push_world.new.text) pushes (rw c.as_bytes.ensures.value at (c.in_err-write_all.ensures {u = tt}).err))
+
+pub returns-clause-ok : goal.returns-clause-ok
+returns-clause-ok g c =
+    let pushes : PushesTurns c.args.limit c.args.at.now.turns.items (together_line c.args.at.now.together.items) [] (string_bytes c.push_world.new.text) =
+    rw c.clear.ensures.bytes at (when_ok c.push_world.result (sym c.is_err.ensures.value ∙ c.if-is_err.false) c.push_world.ensures) in
+    all_turns (string_bytes c.push_world.new.text) pushes (rw c.as_bytes.ensures.value at (c.in_ok-write_all.ensures {u = tt}).ok)

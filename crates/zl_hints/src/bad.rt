@@ -1,16 +1,24 @@
 //! What is wrong with the words of `--bad`.
 
-use crate::numbers::{decimal, is_digits};
+use crate::numbers::{decimal, is_digits, push_no_number};
 use crate::scenario::is_among;
+use bitflags::Flags;
 use std::alloc::{AllocError, Global};
 use zl_code::CallName;
 use zl_program_hints::{Value, push_nearest, push_text, words_of};
-use zl_rights::Status;
+use zl_rights::{Rights, Status};
 
 /// The forms of the words.
 const FORMS: &str = "\
---bad takes 'PID CALL STATUS', 'PID CALL blocked', 'PID stuck', 'PID ended CODE', 'PID blocked' or \
-'PID created', with * for any PID, CALL or STATUS, and \"#\" is none";
+--bad takes 'PID CALL STATUS', 'PID CALL blocked', 'PID stuck', 'PID ended CODE', 'PID blocked', \
+'PID created' or 'PID has KOID [RIGHTS]', with * for any PID, CALL or STATUS and ' and ' between several \
+of the last four, and \"#\" is none";
+
+/// What is wrong where each word is one that may stand there.
+const SPELLING: &str = "; words stand one space apart, and numbers as in a trace";
+
+/// What is wrong with `and` at the beginning or at the end.
+const SIDES: &str = "; on each side of and stands one of them";
 
 /// Any process, call or outcome.
 const ANY: &[u8] = b"*";
@@ -21,6 +29,20 @@ const BLOCKED: &[u8] = b"blocked";
 /// What a process comes to, without a code.
 const STATES: [&str; 3] = ["blocked", "stuck", "created"];
 
+/// What stands behind a process before a code, and before the koid of an object.
+const MORE: [&str; 2] = ["ended", "has"];
+
+/// What words are that may stand between `and`.
+#[derive(Clone, Copy)]
+enum Piece {
+    /// An item, which is of one moment.
+    Item,
+    /// What a process is in, or has.
+    Fact,
+    /// Something is wrong with them.
+    Wrong,
+}
+
 /// Adds which of the words, those behind one `--bad`, aren't understood.
 pub fn explain_bad(hint: &mut String, alloc: Global, words: &[u8]) {
     if push_bad(hint, alloc, words).is_err() {
@@ -30,50 +52,136 @@ pub fn explain_bad(hint: &mut String, alloc: Global, words: &[u8]) {
 
 fn push_bad(hint: &mut String, alloc: Global, words: &[u8]) -> Result<(), AllocError> {
     push_text(hint, FORMS, &[Value::Word(words)])?;
-    let words = words_of(alloc, words)?;
-    match words.as_slice() {
-        [pid, ..] if *pid != ANY && decimal(pid).is_none() => {
-            push_text(
-                hint,
-                "; the PID is #, which is neither a decimal number nor *",
-                &[Value::Word(pid)],
-            )
-        }
-        [_, state] => push_state(hint, alloc, state),
-        [_, b"ended", code] => push_code(hint, code),
-        [_, call, status] => push_answer(hint, alloc, call, status),
-        _ => Ok(()),
+    let mut pieces = Vec::new(alloc);
+    for piece in str::from_utf8(words).unwrap_or("").split(" and ") {
+        pieces.push(piece)?;
+    }
+    if pieces.len() > 1 {
+        return push_joined(hint, alloc, pieces.as_slice());
+    }
+    match push_piece(hint, alloc, words)? {
+        Piece::Wrong => Ok(()),
+        _ => hint.push_str(SPELLING),
     }
 }
 
-/// Adds that the word is no code, if it has another byte than digits behind a sign.
-fn push_code(hint: &mut String, word: &[u8]) -> Result<(), AllocError> {
+/// Adds which of the pieces between `and` isn't understood, or stands beside no other.
+fn push_joined(hint: &mut String, alloc: Global, pieces: &[&str]) -> Result<(), AllocError> {
+    for piece in pieces {
+        let mut fault = String::new(alloc);
+        let text = match push_piece(&mut fault, alloc, piece.as_bytes())? {
+            Piece::Fact => continue,
+            Piece::Item => "; \"#\" is of one moment, and stands beside no other",
+            Piece::Wrong if piece.is_empty() => SIDES,
+            Piece::Wrong => "; \"#\" is none",
+        };
+        push_text(hint, text, &[Value::Word(piece.as_bytes())])?;
+        return hint.push_str(fault.as_str());
+    }
+    hint.push_str(SPELLING)
+}
+
+/// Adds what is wrong with the piece, if it is known, and tells what it is.
+fn push_piece(hint: &mut String, alloc: Global, piece: &[u8]) -> Result<Piece, AllocError> {
+    let words = words_of(alloc, piece)?;
+    match words.as_slice() {
+        [b"and", ..] | [.., b"and"] => wrong(hint, SIDES, &[]),
+        [pid, ..] if *pid != ANY && decimal(pid).is_none() => {
+            let text = "; the PID is #, which is neither a decimal number nor *";
+            wrong(hint, text, &[Value::Word(pid)])
+        }
+        [_, state] => push_state(hint, alloc, state),
+        [_, b"ended", code] => push_code(hint, code, Piece::Fact),
+        [_, b"has", koid] => push_koid(hint, koid),
+        [_, b"has", koid, rights] => match push_koid(hint, koid)? {
+            Piece::Fact => push_rights(hint, rights),
+            _ => Ok(Piece::Wrong),
+        },
+        [_, b"has", ..] => wrong(
+            hint,
+            "; behind has stand a KOID and one number, RIGHTS",
+            &[],
+        ),
+        [_, call, b"ended", code] if is_call(call) => push_code(hint, code, Piece::Item),
+        [_, call, status] => push_answer(hint, alloc, call, status),
+        _ => Ok(Piece::Wrong),
+    }
+}
+
+/// Adds what is wrong, and tells that something is.
+fn wrong(hint: &mut String, text: &str, values: &[Value]) -> Result<Piece, AllocError> {
+    push_text(hint, text, values)?;
+    Ok(Piece::Wrong)
+}
+
+/// Adds that the word is no code, if it has another byte than digits behind a sign. Else the piece is right.
+fn push_code(hint: &mut String, word: &[u8], right: Piece) -> Result<Piece, AllocError> {
     let digits = word.strip_prefix(b"-").unwrap_or(word);
     if is_digits(digits) && !digits.is_empty() {
-        return Ok(());
+        return Ok(right);
     }
-    push_text(
-        hint,
-        "; the CODE is #, which isn't a decimal number",
-        &[Value::Word(word)],
-    )
+    let text = "; the CODE is #, which isn't a decimal number";
+    wrong(hint, text, &[Value::Word(word)])
+}
+
+/// Adds why the word is no koid, if it is none.
+fn push_koid(hint: &mut String, word: &[u8]) -> Result<Piece, AllocError> {
+    if decimal(word).is_some() {
+        return Ok(Piece::Fact);
+    }
+    hint.push_str("; the ")?;
+    push_no_number(hint, "KOID", word)?;
+    Ok(Piece::Wrong)
+}
+
+/// Adds why the word is no sum of rights, if it is none.
+fn push_rights(hint: &mut String, word: &[u8]) -> Result<Piece, AllocError> {
+    let Some(sum) = decimal(word) else {
+        hint.push_str("; ")?;
+        push_no_number(hint, "RIGHTS", word)?;
+        return Ok(Piece::Wrong);
+    };
+    if sum == 0 {
+        let text = "; RIGHTS of 0 aren't written, as each handle has them";
+        return wrong(hint, text, &[]);
+    }
+    let all = u64::from(Rights::all().bits());
+    let beyond = sum & !all;
+    if beyond == 0 {
+        return Ok(Piece::Fact);
+    }
+    let values = [
+        Value::Number(sum),
+        Value::Number(beyond & !(beyond - 1)),
+        Value::Number(all),
+    ];
+    let text = "; RIGHTS is #, of which # is no right; all rights are #";
+    wrong(hint, text, &values)
 }
 
 /// Adds what is wrong with the word behind the process, where none stands behind it.
-fn push_state(hint: &mut String, alloc: Global, word: &[u8]) -> Result<(), AllocError> {
-    if word == b"ended".as_slice() {
-        return hint.push_str("; behind ended stands a CODE");
-    }
-    if word == ANY || CallName::named(word).is_some() {
-        let text = "; behind # stands a STATUS, blocked, or * for any outcome";
-        return push_text(hint, text, &[Value::Word(word)]);
+fn push_state(hint: &mut String, alloc: Global, word: &[u8]) -> Result<Piece, AllocError> {
+    if word == b"stuck".as_slice() {
+        return Ok(Piece::Item);
     }
     if is_among(word, &STATES) {
-        return Ok(());
+        return Ok(Piece::Fact);
+    }
+    if word == b"ended".as_slice() {
+        return wrong(hint, "; behind ended stands a CODE", &[]);
+    }
+    if word == b"has".as_slice() {
+        return wrong(hint, "; behind has stands a KOID", &[]);
+    }
+    if is_call(word) {
+        let text = "; behind # stands a STATUS, blocked, or * for any outcome";
+        return wrong(hint, text, &[Value::Word(word)]);
     }
     let mut names = call_names(alloc)?;
     names.extend_from_slice(&STATES)?;
-    push_nearest(hint, alloc, word, names.as_slice())
+    names.extend_from_slice(&MORE)?;
+    push_nearest(hint, alloc, word, names.as_slice())?;
+    Ok(Piece::Wrong)
 }
 
 /// Adds which of the call and of what it answers is none.
@@ -82,13 +190,16 @@ fn push_answer(
     alloc: Global,
     call: &[u8],
     status: &[u8],
-) -> Result<(), AllocError> {
-    if call != ANY && CallName::named(call).is_none() {
+) -> Result<Piece, AllocError> {
+    if !is_call(call) {
         push_text(hint, "; # is no call", &[Value::Word(call)])?;
-        return push_nearest(hint, alloc, call, call_names(alloc)?.as_slice());
+        let mut names = call_names(alloc)?;
+        names.extend_from_slice(&MORE)?;
+        push_nearest(hint, alloc, call, names.as_slice())?;
+        return Ok(Piece::Wrong);
     }
     if status == ANY || status == BLOCKED || Status::named(status).is_some() {
-        return Ok(());
+        return Ok(Piece::Item);
     }
     push_text(hint, "; # is no STATUS", &[Value::Word(status)])?;
     let status = status.strip_prefix(b"ZX_").unwrap_or(status);
@@ -98,7 +209,13 @@ fn push_answer(
         names.push(known.name())?;
     }
     names.push("blocked")?;
-    push_nearest(hint, alloc, status, names.as_slice())
+    push_nearest(hint, alloc, status, names.as_slice())?;
+    Ok(Piece::Wrong)
+}
+
+/// Whether the word is a call, or stands for any.
+fn is_call(word: &[u8]) -> bool {
+    word == ANY || CallName::named(word).is_some()
 }
 
 /// The names of all calls.

@@ -72,7 +72,7 @@ pub enum Task<'a> {
     },
     /// `explore SCENARIO [--worlds N] [--bad WORDS].. [--part K/N] [--from D]`: all turns of a scenario are
     /// taken in each order, or in those of one part, and each end that is met is written, up to the first
-    /// thing that no order may have.
+    /// item, end or world that no order may have.
     Explore {
         /// The path of the scenario.
         scenario: &'a str,

@@ -63,11 +63,13 @@ class In(NamedTuple):
 
 
 class Has(NamedTuple):
-    """Somebody has a handle of an object with all of these rights. `kind` is None where it isn't known."""
+    """Somebody has a handle of an object with all of these rights. `kind` is None where it isn't known, and `is_by_number`
+    says whether the number alone tells the object: a line makes it, or it may be of any kind."""
     holder: object
     kind: str | None
     koid: int
     rights: int
+    is_by_number: bool
 
     def __str__(self):
         names = "|".join(name for name, bit in RIGHTS.items() if self.rights & bit)
@@ -362,7 +364,7 @@ class Reader:
                           f"{' '.join(rest)}")
             for word in rest[1].split("|"):
                 rights |= self.right(word, kind)
-        return Has(holder, kind, koid, rights)
+        return Has(holder, kind, koid, rights, kind in (None, self.known.kinds.get(koid)))
 
     def object(self, words):
         """An object by its kind and its number."""

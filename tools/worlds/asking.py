@@ -1,4 +1,5 @@
 """What `zlab explore`, the lab's own search, is asked of all orders, and its answer, which has to be that of the model."""
+from itertools import product
 from typing import NamedTuple
 
 from meaning.asserting import ANY, Ended, Has, In
@@ -79,7 +80,22 @@ def words_for(sight):
         return [f"{star(item.who)} {star(item.call)} {answer}" for answer in item.answers or ("*",)]
     if len(facts) == 1 and isinstance(facts[0], In):
         return [f"{star(facts[0].who)} {words}" for words in ASKED_OF[facts[0].state]]
-    return []
+    # one alone that a process has ended would be asked of ends
+    if len(facts) == 1 and isinstance(facts[0], Ended):
+        return []
+    return [" and ".join(words) for words in product(*map(fact_words, facts))] if facts else []
+
+
+def fact_words(fact):
+    """The words, one or other of which is so just where the fact is; none where there are no such."""
+    if isinstance(fact, Ended):
+        return [] if fact.is_other else [f"{star(fact.who)} ended {code}" for code in fact.codes]
+    if isinstance(fact, In):
+        return [f"{star(fact.who)} {f'ended {STUCK}' if fact.state == 'stuck' else fact.state}"]
+    # it is of processes that the search is asked, and of objects without their kinds
+    if not (fact.holder == ANY or isinstance(fact.holder, int)) or not fact.is_by_number:
+        return []
+    return [f"{star(fact.holder)} has {fact.koid}{f' {fact.rights}' if fact.rights else ''}"]
 
 
 def star(one):

@@ -102,6 +102,11 @@ def star(one):
     return "*" if one == ANY else one
 
 
+def is_of_waits(sight):
+    """Whether an assertion is about who waits for whom at an end, of which the search tells that nobody does, and no more."""
+    return bool(sight.cause) and sight.cause.name in ("deadlock", "blocked for good")
+
+
 def is_settled(sight, answer):
     """Whether a whole search tells of an assertion, of which nothing is seen at the ends that it has, that no order has
     it. Where it is about one moment of an order, the search was asked."""
@@ -115,7 +120,7 @@ def is_settled(sight, answer):
     if sight.in_worlds:
         # who has ended stays so up to an end, and from each world one is reached
         return all(isinstance(fact, Ended) or isinstance(fact, In) and fact.state == "stuck" for fact in sight.in_worlds.facts)
-    return not (sight.cause and sight.cause.name in ("deadlock", "blocked for good") and answer.has_blocked)
+    return not (is_of_waits(sight) and answer.has_blocked)
 
 
 # ---- the search

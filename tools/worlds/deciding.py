@@ -156,9 +156,12 @@ class Asserted(Nothing):
             if sight.is_of_endless:
                 sight.worlds.update(numbers)
 
-    def verdicts(self, is_whole, by_model=()):
-        """What is known of each, once all orders were tried or some; of these sights by the model alone, if it is known."""
-        return [Verdict(sight, found_of(sight, is_whole), is_whole and sight in by_model) for sight in self.sights]
+    def verdicts(self, is_whole, by_model=(), untold=None):
+        """What is known of each, once all orders were tried or some: of the sights in `by_model` by the model alone, if it is
+        known, and of those in `untold` nothing, each with why."""
+        whys = [untold.get(sight, "") if is_whole and untold else "" for sight in self.sights]
+        return [Verdict(sight, found_of(sight, is_whole and not why), is_whole and sight in by_model, why)
+                for sight, why in zip(self.sights, whys)]
 
 
 def found_of(sight, is_whole):
@@ -170,7 +173,9 @@ def found_of(sight, is_whole):
 
 
 class Verdict(NamedTuple):
-    """What is known of an assertion, and whether that it is in no order rests on the model."""
+    """What is known of an assertion, whether that it is in no order rests on the model, and why nothing is known where all
+    orders were tried."""
     sight: Sight
     found: str
     is_by_model: bool
+    why: str

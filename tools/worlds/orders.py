@@ -25,6 +25,11 @@ class End(NamedTuple):
         """Whether somebody goes round for ever, so that it is none to the lab's own search."""
         return any(line.startswith(CAUSES["goes round"]) for line in self.reasons)
 
+    @property
+    def is_blocked(self):
+        """Whether somebody waits."""
+        return any(line.startswith((CAUSES["deadlock"], CAUSES["blocked for good"])) for line in self.reasons)
+
 
 def end_of(world, telling):
     """The end that the world is."""

@@ -7,7 +7,7 @@ from meaning.trouble import Trouble
 
 from .deciding import BROKEN, HOLDS, UNDECIDED
 from .report import INDENT, add_up, print_ends, read_ends
-from .verdicts import IN_NONE, NOT_SEEN, summary_of
+from .verdicts import IN_NONE, NOT_SEEN, NOT_TOLD, summary_of
 
 # How the lines begin that say of a part that it hasn't tried all.
 NOT_ALL = ("There are more than ", "Some orders end where ", "Interrupted: ", "Memory was refused to ")
@@ -84,7 +84,8 @@ class Assertions:
             if is_all and self.not_seen[key] == self.parts:
                 raise Trouble(f"{at}: no order has {below[0].removeprefix(INDENT + NOT_SEEN)}")
             below = [line for line in below if not line.startswith(INDENT + NOT_SEEN)]
-            if verdict == UNDECIDED and is_all:
+            is_told = not any(line.startswith(INDENT + NOT_TOLD) for line in below)
+            if verdict == UNDECIDED and is_all and is_told:
                 verdict = BROKEN if text.startswith("sometimes ") else HOLDS
                 below = [INDENT + IN_NONE] if verdict == BROKEN else []
             yield verdict, [f"{at}: {verdict}: {text}", *below]

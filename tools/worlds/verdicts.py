@@ -6,7 +6,7 @@ from meaning.scenario import joined
 from meaning.telling import counted
 from meaning.trouble import Trouble
 
-from .asking import MEMORY, ask, is_settled, words_for
+from .asking import MEMORY, ask, is_of_waits, is_settled, words_for
 from .bad import Shrinking
 from .deciding import BROKEN, HOLDS, UNDECIDED, Asserted
 from .ends import CAUSES, end_name, end_reasons
@@ -21,6 +21,9 @@ from .turns import choices, played
 IN_NONE = "in none of all orders"
 BY_MODEL = "by the model"
 NOT_SEEN = "not seen in these orders: "
+# What is told below one that isn't decided, though the lab's own search has met all orders, and why it isn't.
+NOT_TOLD = "no schedule found shows it, and zlab explore doesn't tell"
+AT_BLOCKED = f"{NOT_TOLD} where a process is blocked at an end"
 
 
 def summary_of(counts):
@@ -101,7 +104,7 @@ class Verdicts:
         if verdict.found == BROKEN and turns is None:
             lines.append(INDENT + IN_NONE + f", {BY_MODEL}" * verdict.is_by_model)
         elif turns is None:
-            lines += [INDENT + BY_MODEL] if verdict.is_by_model else []
+            lines += [INDENT + told for told in (BY_MODEL * verdict.is_by_model, verdict.why) if told]
         else:
             reasons = self.reasons(verdict.sight, turns) if verdict.found == BROKEN else []
             lines += [INDENT + line for line in [*reasons, turns_text(turns, self.exploring.telling)]]
@@ -156,22 +159,27 @@ class Decided:
         self.found = exploring.search(self.asserted, most, part)
         self.asserted.endless(self.found.endless())
         with so_far(self.found):
-            self.answer, by_model = self.ask(most) if self.found.is_all else (None, ())
+            self.answer, by_model, untold = self.ask(most) if self.found.is_all else (None, (), None)
             self.is_all = self.answer is not None and self.answer.is_whole
             self.has_steps = part[1] > 1 or self.is_all and bool(by_model)
             if self.has_steps:
                 exploring.confirm_steps(self.found)
-            self.verdicts = Verdicts(path, exploring, self.asserted.verdicts(self.is_all, by_model), self.found)
+            self.verdicts = Verdicts(path, exploring, self.asserted.verdicts(self.is_all, by_model, untold), self.found)
             self.turns = self.verdicts.turns_of_orders(self.found.graph)
 
     def ask(self, most):
-        """The answer of the lab's own search, and what nobody has seen and that search doesn't settle either."""
+        """The answer of the lab's own search; what nobody has seen and that search doesn't settle either, so that it rests on
+        the model; and what isn't told at all, with why."""
         missing = self.asserted.missing
         unseen = [sight for sight in self.asserted.sights if not sight.is_seen]
         # of what is nowhere there is nothing to ask
         known = [sight for sight in unseen if missing.isdisjoint(sight.assertion.named_objects())]
         answer = ask(self.exploring, self.found, most, [words for sight in known for words in words_for(sight)])
-        return answer, [sight for sight in unseen if sight not in known or not is_settled(sight, answer)]
+        unsettled = [sight for sight in unseen if sight not in known or not is_settled(sight, answer)]
+        # that nobody waits in a circle, where somebody waits, is no more than the model's word
+        is_blocked = any(end.is_blocked for end in self.found.graph.ends.values())
+        untold = {sight: AT_BLOCKED for sight in unsettled if is_blocked and is_of_waits(sight) and not sight.is_sometimes}
+        return answer, [sight for sight in unsettled if sight not in untold], untold
 
     def tried(self):
         return tried_text(self.found, self.exploring, self.answer, self.has_steps)

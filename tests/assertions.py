@@ -126,6 +126,98 @@ def try_untold(tools):
     yield "a deadlock, and nothing else", (found.returncode, told, found.stdout.splitlines()[-1]), (1, wanted, last)
 
 
+# 3 polls for ever, and 4 has eleven instructions in front of its one call, and the trace has room for ten: by the model 4
+# stays where it is.
+POLLS = """#? never 4 process_exit any
+#? never 4 stuck
+#? never 4 has event 2
+#? never no end
+limit 10
+event
+program raw asm
+    const r3, 8
+again:
+    wait_poll r4, r0, r3, r5
+    jmp again
+end
+program raw asm
+""" + 11 * "    const r3, 1\n" + """    process_exit r1
+end
+process 1 0 0 2:16384
+process 1 1 0
+"""
+
+
+def try_limits(tools):
+    """The lab's own search has no limit, and what it finds beyond that of the model is told too."""
+    longer = ASSERTIONS / "longer.zls"
+    found = tools.explore("--ends", longer)
+    lines = found.stdout.splitlines()
+    yield "an end beyond the limit", (found.returncode, lines[0].split(" (")[0], lines[1:]), (
+        0, "1 end in all orders of calls, some of which have more than 3 items", [
+            "", "some orders: 2 ended 1", "    4 items: a line `limit 4` lets the trace have them", "    2 4", "",
+            "No end has other states, by zlab explore; the rest is by the model, which stops where the trace has 3 items."])
+    shutil.copy(longer, tools.room)
+    told = tools.explore("longer.zls").stdout
+    yield "its schedule", stepped(tools, "longer.5")[-3:], ["2 process_exit ended 1", "process 2 ended 1", "end schedule"]
+    added = tools.run("explore", "--sum", given=told)
+    yield "its sum", (added.returncode, added.stdout.splitlines()[-1].split(";")[0]), (1, "3 broken, 6 hold, 2 not decided")
+    # the deadlock is seven items away
+    text = (EXAMPLES / "locks-crosswise.zls").read_text().split("\n--\n")[0]
+    (tools.room / "crosswise.zls").write_text(f"#? never deadlock\nlimit 5\n{text}\n")
+    found = tools.explore("crosswise.zls")
+    lines = found.stdout.splitlines()
+    yield "a deadlock beyond the limit", (found.returncode, lines[0], lines[1].split(" in ")[0], lines[3]), (
+        1, "crosswise.zls:1: broken: never deadlock", "    deadlock: 5 waits",
+        "    7 items: a line `limit 7` lets the trace have them")
+    yield "its schedule", stepped(tools, "crosswise.1")[-4:], [
+        "process 4 ended 0", "process 5 blocked", "process 6 blocked", "end schedule"]
+
+
+def stepped(tools, name):
+    """The lines of the trace of a schedule that was written, and of the scenario beside it."""
+    return subprocess.run([tools.program, "step", f"{name}.zls", f"{name}.turns"], cwd=tools.room, capture_output=True,
+                          text=True).stdout.splitlines()
+
+
+def try_left(tools):
+    """One that the model leaves where it is, as the trace has no room for it, goes on for the lab."""
+    (tools.room / "polls.zls").write_text(POLLS)
+    found = tools.explore("polls.zls")
+    stops = f"{NOT_TOLD}; the model stops where the trace has 10 items"
+    yield "one that the model leaves", (found.returncode, found.stdout.splitlines()), (1, [
+        "polls.zls:1: broken: never 4 process_exit any", "    4 process_exit ended 0", "    4 12",
+        "    12 items: a line `limit 12` lets the trace have them",
+        "    written to polls.1.turns: zlab step polls.1.zls polls.1.turns",
+        "polls.zls:2: holds: never 4 stuck", "polls.zls:3: not decided: never 4 has event 2", stops,
+        "polls.zls:4: not decided: never no end", stops,
+        "1 broken, 1 holds, 2 not decided; all orders, some of which have more than 10 items "
+        "(by zlab explore; 2 worlds of the model)"])
+    told = tools.explore("--ends", "polls.zls").stdout.splitlines()
+    yield "its ends", (told[0].split(" in ")[0], told[2]), (
+        "0 ends", "Some orders lead to where none comes to an end any more, by zlab explore.")
+
+
+def try_limits_otherwise(tools):
+    """Where the lab's own search hasn't met all worlds either, or comes to something else than the model."""
+    longer, limit = ASSERTIONS / "longer.zls", "Some orders end where the trace has 3 items: a line `limit N` lets it have more."
+    end, last = ["end", "process 2 ended 1", "by 4 items", "2 4"], "2 worlds 1 turns 1 ends"
+    for word, status, told in [("cut", 5, "There are more than 100000 worlds: "),
+                               ("memory", 4, "Memory was refused to zlab explore: ")]:
+        found = tools.run("explore", "--zlab", searching(tools, [*end, f"{word} {last}"], status), "--ends", longer)
+        lines = found.stdout.splitlines()
+        yield f"beyond the limit: {word}", (
+            found.returncode, limit in lines, told in found.stdout, "some orders: 2 ended 1" in lines), (5, True, True, True)
+    parts = "explore: zlab explore and the model of explore part on this scenario: "
+    wrong = ["end", "process 2 ended 8", "by 4 items", "2 4", f"all {last}"]
+    found = tools.run("explore", "--zlab", searching(tools, wrong, 0), "--ends", longer)
+    told = f"{parts}2 4 doesn't lead to the end 2 ended 8 of zlab explore\n"
+    yield "beyond the limit: another end", (found.returncode, found.stdout, found.stderr), (2, "", told)
+    found = tools.run("explore", "--zlab", searching(tools, ["by 4 items", "2 4", "bad 2 stuck"], 1), longer)
+    told = f"{parts}by 2 4 the model doesn't come to 2 stuck, and zlab explore does\n"
+    yield "beyond the limit: a bad order", (found.returncode, found.stdout, found.stderr), (2, "", told)
+
+
 def try_parting(tools):
     """Where the lab does otherwise than the model that is all, whatever is broken."""
     lab = tools.room / "lab"

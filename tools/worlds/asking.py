@@ -127,8 +127,8 @@ def is_settled(sight, answer):
 
 
 def ask(exploring, found, most, words=()):
-    """The answer of the lab's own search to what the model has found by a whole one: it has to have the same ends, and no
-    order with one of these words."""
+    """The answer of the lab's own search to what the model has found: it has to have the same ends, and no order with one of
+    these words. Where the trace had no room for some orders of the model, it may have found more."""
     words = list(dict.fromkeys(words))
     parts = [words[at:at + MOST_THINGS] for at in range(0, len(words), MOST_THINGS)] or [[]]
     for part in parts:
@@ -137,20 +137,37 @@ def ask(exploring, found, most, words=()):
         answer = answer_in(lines, exploring.telling)
         difference = difference_of(found, answer)
         if difference:
-            raise Trouble(f"zlab explore and the model of {exploring.tool} part on this scenario: {difference}")
+            raise parting(exploring, difference)
         if not answer.is_whole:
             break
     return answer
 
 
+def parting(exploring, difference):
+    """The trouble that it is where the search of the lab and the model say other things."""
+    return Trouble(f"zlab explore and the model of {exploring.tool} part on this scenario: {difference}")
+
+
+def runs_beyond(exploring, found, answer):
+    """Runs to the ends to which the search of the lab comes and that of the model doesn't, as the trace has no room."""
+    names, runs = {end.name for end in found.graph.ends.values()}, []
+    for name, turns in answer.ends.items():
+        if name not in names:
+            runs.append(exploring.run_along(turns))
+            end = runs[-1].end(exploring.telling)
+            if end is None or end.name != name:
+                raise parting(exploring, f"{turns_text(turns)} doesn't lead to the end {name or NOBODY} of zlab explore")
+    return runs
+
+
 def difference_of(found, answer):
     """What the search of the lab has and that of the model hasn't, or the other way round; nothing where they agree."""
     graph = found.graph
-    if answer.last[0] == BAD:
+    if answer.last[0] == BAD and not graph.is_cut:
         return f"no order of the model has {' '.join(answer.last[1:])}, to which zlab explore comes by {turns_text(answer.turns)}"
     numbers = {end.name: number for number, end in graph.ends.items() if not end.is_round}
     for name, turns in answer.ends.items():
-        if name not in numbers:
+        if name not in numbers and not graph.is_cut:
             return f"the model has no end {name or NOBODY}, to which zlab explore comes by {turns_text(turns)}"
     if not answer.is_whole:
         return None
@@ -159,7 +176,7 @@ def difference_of(found, answer):
             turns = turns_text(joined(run_of(graph.first, graph.order_to(number)).turns))
             return f"zlab explore has no end {name or NOBODY}, to which the model comes by {turns}"
     is_endless = bool(found.endless()) or any(end.is_round for end in graph.ends.values())
-    if answer.is_endless != is_endless:
+    if answer.is_endless != is_endless and not (graph.is_cut and answer.is_endless):
         one, other = ("zlab explore", "the model") if answer.is_endless else ("the model", "zlab explore")
         return f"{one} has orders that come to no end any more, and {other} has none"
     return None

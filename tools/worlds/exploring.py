@@ -11,8 +11,11 @@ from meaning.zlt import names_in
 from .ends import NO_END, is_cut
 from .orders import Graph, Place, Run, may_go, roots_of, run_of
 from .paths import covering_runs, endless_worlds, going_round, orders_to_ends
-from .turns import choices
+from .turns import choices, played
 from .world import first_world
+
+# The most items of a trace.
+MOST_ITEMS = 1_000_000
 
 
 class Exploring:
@@ -32,6 +35,8 @@ class Exploring:
         self.short_text = b"".join(line + b"\n" for line in lines if line and not line.startswith(b"#"))
         self.cover = cover_of and cover_of(scenario)
         self.scenario, self.first = scenario, first_world(scenario, self.cover)
+        # The same, where the trace has room for the schedules to which the lab's own search has come.
+        self.roomy = self.first
         self.telling = Telling(names_in(text), lab.file and lab.file.programs, Origins(scenario.programs, lab.told))
         self.runs_before = lab.runs
         # The ends to which runs have come that the lab has taken too, each with the schedule of the one with the fewest
@@ -50,12 +55,34 @@ class Exploring:
 
     def confirm(self, turns, trace):
         """The lab runs the schedule, and has to write this trace."""
-        seen = self.lab.trace(self.short_text, schedule_text(turns).encode())
+        seen = self.lab.trace(self.short_text + self.room_for(turns), schedule_text(turns).encode())
         if seen != trace:
             at = next((n for n, pair in enumerate(zip(seen, trace)) if pair[0] != pair[1]), min(len(seen), len(trace)))
             told = [lines[at] if at < len(lines) else "nothing" for lines in (seen, trace)]
             raise Trouble(f"the model of {self.tool} is wrong about this scenario: line {at + 1} of the trace is {told[0]}, "
                           f"and by the model {told[1]}; the schedule is {' / '.join(f'{pid} {n}' for pid, n in turns)}")
+
+    def room_for(self, turns):
+        """The line by which the trace has room for a schedule, if it has none without."""
+        items = sum(count for _, count in turns)
+        return b"limit %d\n" % items if items > self.first.limit else b""
+
+    def text_for(self, turns):
+        """The scenario with that line, if a schedule wants it."""
+        room = self.room_for(turns)
+        return self.text + b"\n" * (not self.text.endswith(b"\n")) + room if room else None
+
+    def run_along(self, turns):
+        """A run of the order of calls along a schedule to which the lab's own search has come, and which the lab takes."""
+        items = sum(count for _, count in turns)
+        if items > MOST_ITEMS:
+            raise Trouble(f"zlab explore has a schedule of {items:,} items, and a trace may have {MOST_ITEMS:,}")
+        if items > self.roomy.limit:
+            self.roomy = first_world(self.scenario, limit=items)
+        trace = played(self.roomy.copy(), turns)
+        self.confirm(turns, trace)
+        order = [int(line.split(" ")[0]) for line in trace if line[0].isdigit() and " run " not in line]
+        return run_of(self.roomy, order)
 
     def confirm_run(self, run):
         """The schedule of a run, once the lab has taken it."""
@@ -71,7 +98,7 @@ class Exploring:
         return any(taken[:len(order)] == list(order) for taken in self.taken)
 
     def confirm_order(self, order):
-        return self.confirm_run(run_of(self.first, order))
+        return self.confirm_run(run_of(self.roomy, order))
 
     # ---- all orders
 
@@ -155,6 +182,11 @@ class Searched:
     def is_all(self):
         """The same, where these are all worlds that there are."""
         return self.is_whole and self.part[1] == 1
+
+    @property
+    def is_for_lab(self):
+        """Whether the lab's own search is asked of all orders: it has no limit of a trace."""
+        return not self.graph.has_too_many and not self.graph.outgrows and self.part[1] == 1
 
     def counts(self):
         return orders_to_ends(self.graph)

@@ -84,14 +84,15 @@ class Files:
             raise Trouble(f"can't write {path}: {fault.strerror}") from None
         return True
 
-    def write(self, default, turns, comment):
-        """Writes a schedule, and the scenario beside it: the lines that say so."""
+    def write(self, default, turns, comment, text=None):
+        """Writes a schedule, and the scenario beside it, or another text of it: the lines that say so."""
+        text = self.text if text is None else text
         path = Path(self.given if self.given is not None else default)
         content = (comment + schedule_text(turns)).encode()
         wanted = [(path, content)]
-        beside = self.scenario if self.text is None else path.with_suffix(BESIDE)
-        if self.text is not None:
-            wanted.append((beside, self.text))
+        beside = self.scenario if text is None else path.with_suffix(BESIDE)
+        if text is not None:
+            wanted.append((beside, text))
         stays = [file for file, content in wanted if not self.put(file, content)]
         lines = [f"{file} is there already and stays: --force writes over it" if not self.is_scenario(file)
                  else f"{file} is the scenario itself and stays: --turns FILE names another file" for file in stays]

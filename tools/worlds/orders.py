@@ -4,7 +4,7 @@ from typing import NamedTuple
 
 from .ends import CAUSES, NO_NAMES, end_name, end_reasons, is_cut
 from .turns import choices, go, turns_to_call
-
+from .world import outgrows
 
 # How many calls are the same in all parts of a search at most.
 MOST_SHARED = 24
@@ -103,8 +103,10 @@ class Graph:
         # How many orders lead to each root.
         self.roots = {}
         self.ends = {}
-        # Some worlds weren't gone on from, as there are too many, or as traces have no room.
-        self.has_too_many = self.is_cut = False
+        # Some worlds weren't gone on from, as there are too many, or as traces have no room; and somebody may go on and on
+        # without a call.
+        self.has_too_many = self.is_cut = self.outgrows = False
+        self.looked_at = {}
 
     def key(self, world):
         return tuple(self.parts.setdefault(part, len(self.parts)) for part in world.parts())
@@ -151,7 +153,9 @@ class Graph:
 
     def go_on(self, number, world, queue):
         pids = choices(world)
-        if not pids:
+        if is_cut(world):
+            self.is_cut, self.outgrows = True, self.outgrows or outgrows(world, self.looked_at)
+        elif not pids:
             self.come_to_end(number, world)
         for pid in pids:
             if not may_go(world, pid):
@@ -167,9 +171,6 @@ class Graph:
                 self.watch.world(Place(target), after)
 
     def come_to_end(self, number, world):
-        if is_cut(world):
-            self.is_cut = True
-            return
         self.ends[number] = end_of(world, self.telling)
         self.watch.end(Place(number), world)
 

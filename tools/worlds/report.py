@@ -26,6 +26,11 @@ def turns_text(turns, telling=None):
     return " / ".join(f"{who(pid)} {count}" for pid, count in turns) or "no turns"
 
 
+def room_text(items, limit):
+    """What is told of a schedule for which the trace has no room."""
+    return f"{items:,} items: a line `limit {items}` lets the trace have them" if items > limit else ""
+
+
 def print_ends(ends):
     """Prints the ends, those to which the most orders came first."""
     total = sum(told.count or 0 for told in ends)

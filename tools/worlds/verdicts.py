@@ -6,14 +6,14 @@ from meaning.scenario import joined
 from meaning.telling import counted
 from meaning.trouble import Trouble
 
-from .asking import MEMORY, ask, is_of_waits, is_settled, words_for
+from .asking import BAD, MEMORY, ask, is_of_waits, is_settled, parting, runs_beyond, words_for
 from .bad import Shrinking
 from .deciding import BROKEN, HOLDS, UNDECIDED, Asserted
 from .ends import CAUSES, end_name, end_reasons
 from .exploring import so_far
-from .orders import run_of
+from .orders import Place, run_of
 from .paths import lines_in, shortest_orders
-from .report import CONFIRMED, INDENT, NOT_YET, turns_text
+from .report import CONFIRMED, INDENT, NOT_YET, room_text, turns_text
 from .turns import choices, played
 
 # What is told below an assertion of which nothing, or something else, was seen, and on what that rests, if it isn't the
@@ -24,6 +24,7 @@ NOT_SEEN = "not seen in these orders: "
 # What is told below one that isn't decided, though the lab's own search has met all orders, and why it isn't.
 NOT_TOLD = "no schedule found shows it, and zlab explore doesn't tell"
 AT_BLOCKED = f"{NOT_TOLD} where a process is blocked at an end"
+AT_LIMIT = f"{NOT_TOLD}; the model stops where the trace has"
 
 
 def summary_of(counts):
@@ -107,12 +108,13 @@ class Verdicts:
             lines += [INDENT + told for told in (BY_MODEL * verdict.is_by_model, verdict.why) if told]
         else:
             reasons = self.reasons(verdict.sight, turns) if verdict.found == BROKEN else []
-            lines += [INDENT + line for line in [*reasons, turns_text(turns, self.exploring.telling)]]
+            room = room_text(sum(count for _, count in turns), self.exploring.first.limit)
+            lines += [INDENT + line for line in [*reasons, turns_text(turns, self.exploring.telling), room] if line]
         return lines
 
     def reasons(self, sight, turns):
         """What there is behind the turns that breaks the assertion."""
-        telling, world = self.exploring.telling, self.exploring.first.copy()
+        telling, world = self.exploring.telling, self.exploring.roomy.copy()
         trace = played(world, turns)
         items = trace[:-1 - len(world.last_lines())]
         last = telling.told(told_ends(items[-1])) if items else ""
@@ -159,7 +161,7 @@ class Decided:
         self.found = exploring.search(self.asserted, most, part)
         self.asserted.endless(self.found.endless())
         with so_far(self.found):
-            self.answer, by_model, untold = self.ask(most) if self.found.is_all else (None, (), None)
+            self.answer, by_model, untold = self.ask(most) if self.found.is_for_lab else (None, (), None)
             self.is_all = self.answer is not None and self.answer.is_whole
             self.has_steps = part[1] > 1 or self.is_all and bool(by_model)
             if self.has_steps:
@@ -170,23 +172,52 @@ class Decided:
     def ask(self, most):
         """The answer of the lab's own search; what nobody has seen and that search doesn't settle either, so that it rests on
         the model; and what isn't told at all, with why."""
-        missing = self.asserted.missing
-        unseen = [sight for sight in self.asserted.sights if not sight.is_seen]
-        # of what is nowhere there is nothing to ask
-        known = [sight for sight in unseen if missing.isdisjoint(sight.assertion.named_objects())]
-        answer = ask(self.exploring, self.found, most, [words for sight in known for words in words_for(sight)])
-        unsettled = [sight for sight in unseen if sight not in known or not is_settled(sight, answer)]
+        graph, answer = self.found.graph, self.answer_of(most)
+        known = self.unseen()
+        unsettled = [sight for sight in self.asserted.sights
+                     if not sight.is_seen and (sight not in known or not is_settled(sight, answer))]
+        untold = {sight: f"{AT_LIMIT} {counted(graph.first.limit, 'item')}" for sight in unsettled if graph.is_cut}
         # that nobody waits in a circle, where somebody waits, is no more than the model's word
-        is_blocked = any(end.is_blocked for end in self.found.graph.ends.values())
-        untold = {sight: AT_BLOCKED for sight in unsettled if is_blocked and is_of_waits(sight) and not sight.is_sometimes}
+        if answer.has_blocked or any(end.is_blocked for end in graph.ends.values()):
+            untold |= {sight: AT_BLOCKED for sight in unsettled if is_of_waits(sight) and not sight.is_sometimes}
         return answer, [sight for sight in unsettled if sight not in untold], untold
+
+    def unseen(self):
+        """What nobody has seen; but of what is nowhere there is nothing to ask."""
+        missing = self.asserted.missing
+        return [sight for sight in self.asserted.sights
+                if not sight.is_seen and missing.isdisjoint(sight.assertion.named_objects())]
+
+    def answer_of(self, most):
+        """The answer of the lab's own search. What it has found where the trace had no room for the model is seen now."""
+        while True:
+            words = [words for sight in self.unseen() for words in words_for(sight)]
+            answer = ask(self.exploring, self.found, most, words)
+            if self.found.graph.is_cut:
+                for run in runs_beyond(self.exploring, self.found, answer):
+                    self.see([sight for sight in self.unseen() if sight.is_in_trace(run.lines, run.world)], run)
+            if answer.last[0] != BAD:
+                return answer
+            self.see_bad(" ".join(answer.last[1:]), answer.turns)
+
+    def see(self, sights, run):
+        for sight in sights:
+            sight.see(Place(None, way=tuple(run.order)))
+
+    def see_bad(self, words, turns):
+        """What was asked by these words is seen along the schedule."""
+        run = self.exploring.run_along(turns)
+        sights = [sight for sight in self.unseen() if words in words_for(sight)]
+        if not sights or not all(sight.is_in_trace(run.lines, run.world) for sight in sights):
+            raise parting(self.exploring, f"by {turns_text(turns)} the model doesn't come to {words}, and zlab explore does")
+        self.see(sights, run)
 
     def tried(self):
         return tried_text(self.found, self.exploring, self.answer, self.has_steps)
 
     def refuse_missing(self):
         """Refuses what is in no order, once all were tried."""
-        for key, things in self.verdicts.missing(self.asserted).items() if self.is_all else ():
+        for key, things in self.verdicts.missing(self.asserted).items() if self.is_all and self.found.is_whole else ():
             at = f"line {self.verdicts.sights[key].assertion.line}: no order has {things}"
             raise Trouble(at if str(self.path) == "-" else f"{self.path}: {at}")
 
@@ -202,8 +233,10 @@ def tried_text(found, exploring, answer=None, has_steps=True):
     (part, parts), counts = found.part, found.counts()
     if answer and answer.last[0] == MEMORY:
         orders = "not all orders: memory was refused to zlab explore"
-    elif found.graph.has_too_many or answer and not answer.is_whole:
+    elif found.graph.has_too_many or answer and not answer.is_whole and not found.graph.is_cut:
         orders = "not all orders: --worlds N takes more"
+    elif found.graph.is_cut and answer and answer.is_whole:
+        orders = f"all orders, some of which have more than {counted(exploring.first.limit, 'item')}"
     elif found.graph.is_cut:
         orders = f"not all orders: some end where the trace has {exploring.first.limit:,} items, more by a line `limit N`"
     elif counts is None:

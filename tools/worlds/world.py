@@ -6,6 +6,8 @@ from meaning.world import World
 # How a burst of local instructions ends: at a call; at what can't be done; where it goes round for ever,
 # back in a state that it had before; and after as many as it may do.
 AT_CALL, AT_STUCK, ROUND, FAR = "call", "stuck", "round", "far"
+# After so many of them in a row a turn of the lab's own search is done.
+TURN = 10_000
 # From here on a burst looks whether it goes round.
 LONG = 64
 
@@ -85,8 +87,22 @@ class SearchedWorld(World):
         return [(pid, self.ahead[pid][1]) for pid, process in self.processes.items() if process.state == "ready"]
 
 
-def first_world(scenario, cover=None):
-    """The world in which no turn was taken yet."""
-    world = boot(scenario, SearchedWorld(scenario.programs, scenario.limit, cover))
+def outgrows(world, known):
+    """Whether somebody does as many local instructions in a row as the lab's own search does in a turn, and comes to no
+    call, so that these make worlds. `known` has what was found of those who were looked at."""
+    for pid, stop in world.ready():
+        if stop == FAR:
+            cpu = world.processes[pid].cpu
+            key = pid, cpu.parts()
+            if key not in known:
+                known[key] = burst(cpu.copy(), TURN)[1] == FAR
+            if known[key]:
+                return True
+    return False
+
+
+def first_world(scenario, cover=None, limit=None):
+    """The world in which no turn was taken yet, where the trace may have as many items as it says, or as are named."""
+    world = boot(scenario, SearchedWorld(scenario.programs, scenario.limit if limit is None else limit, cover))
     world.follow()
     return world

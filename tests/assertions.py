@@ -200,7 +200,8 @@ def try_left(tools):
 
 def try_limits_otherwise(tools):
     """Where the lab's own search hasn't met all worlds either, or comes to something else than the model."""
-    longer, limit = ASSERTIONS / "longer.zls", "Some orders end where the trace has 3 items: a line `limit N` lets it have more."
+    longer = ASSERTIONS / "longer.zls"
+    limit = "Some orders end where the trace has 3 items: a line `limit N` lets it have more."
     end, last = ["end", "process 2 ended 1", "by 4 items", "2 4"], "2 worlds 1 turns 1 ends"
     for word, status, told in [("cut", 5, "There are more than 100000 worlds: "),
                                ("memory", 4, "Memory was refused to zlab explore: ")]:
@@ -292,6 +293,60 @@ def try_searches(tools):
     found = tools.run("try-all", "--zlab", searching(tools, [LAST], 0), ".")
     told = "try-all: asked.zls: zlab explore and the model of try-all part on this scenario: zlab explore has no end 2 ended 7, "
     yield "a folder: no end", (found.returncode, found.stderr.startswith(told)), (2, True)
+
+
+# What zlab explore alone can tell to hold, of two processes of three calls each that have nothing to do with each other.
+ALONE = """#? never deadlock, blocked for good, no end, goes round
+#? never any stuck, 3 any BAD_HANDLE, any blocked
+#? never 2 ended 2, 2 ended 1 and 3 ended 4
+#? always 2 ended 1
+#? at end: 3 ended 1|2 and 2 ended
+program raw asm
+    close r2, r0
+    const r3, 1
+    close r2, r0
+    process_exit r3
+end
+process 1 0 0
+process 1 0 0
+"""
+
+
+def try_alone(tools):
+    """Where zlab explore tells that all assertions hold, the model searches nothing; else it does, and has to agree."""
+    (tools.room / "alone.zls").write_text(ALONE)
+    found = tools.explore("alone.zls")
+    told = [line.partition(":")[2].partition(": ")[2] for line in found.stdout.splitlines()[:-1]]
+    wanted = [f"holds: {mode} {claim.strip()}" for mode, claims in [
+        ("never", "deadlock, blocked for good, no end, goes round, any stuck, 3 any BAD_HANDLE, any blocked, 2 ended 2, "
+                  "2 ended 1 and 3 ended 4"), ("always", "2 ended 1"), ("at end:", "3 ended 1|2 and 2 ended")]
+        for claim in claims.split(",")]
+    # each has done none to three of its calls
+    last = "0 broken, 11 hold, 0 not decided; all orders (by zlab explore, 16 worlds)"
+    yield "alone", (found.returncode, told, found.stdout.splitlines()[-1]), (0, wanted, last)
+    added = tools.run("explore", "--sum", given=found.stdout)
+    yield "its sum", (added.returncode, added.stdout.splitlines()[-1].split(";")[0]), (0, last.split(";")[0])
+    one = tools.room / "one.zls"
+    # the model has two worlds, and nobody asks it
+    five = "all 5 worlds 1 turns 1 ends"
+    for asked, written, status, seen in [
+            ("never 2 stuck", [*END, five], 0, "all orders (by zlab explore, 5 worlds)"),
+            ("always 2 ended 7", [*END, five], 0, "all orders (by zlab explore, 5 worlds)"),
+            ("always 2 ended 6", [*END, five], 1, "the only order (by zlab explore; 2 worlds of the model)"),
+            ("never 2 ended", [*END, five], 1, "the only order (by zlab explore; 2 worlds of the model)"),
+            ("sometimes 2 ended", [*END, five], 0, "the only order (by zlab explore; 2 worlds of the model)"),
+            ("never 2 has job 1", [*END, five], 0,
+             "the only order (by zlab explore; 2 worlds of the model; the lab ran each step)"),
+            ("always 2 ended 7", ["end", "process 2 ended 8", "by", "2 1", five], 2, None),
+            ("never deadlock", ["end", "process 2 blocked", "by", "2 1", five], 2, None),
+            ("never no end", [*END, "endless", five], 2, None)]:
+        one.write_text(f"#? {asked}\n{ONE}")
+        found = tools.run("explore", "--zlab", searching(tools, written, 0), "one.zls")
+        lines = found.stdout.splitlines()
+        yield f"{asked}: {written[1:-1]}", (found.returncode, lines[-1].split("; ", 1)[1] if lines else None), (status, seen)
+    one.write_text(f"#? never 9 stuck\n{ONE}")
+    found = tools.explore("one.zls")
+    yield "nobody alone", (found.returncode, found.stderr), (2, "explore: one.zls: line 1: no order has process 9\n")
 
 
 def try_searches_cut(tools):

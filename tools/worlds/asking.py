@@ -8,9 +8,11 @@ from meaning.scenario import joined
 from meaning.telling import counted
 from meaning.trouble import Trouble
 
+from .deciding import hold
 from .ends import states_name
 from .orders import run_of
 from .report import turns_text
+from .world import outgrows
 
 # How many things no order may have are asked of one search, and how many worlds it takes.
 MOST_THINGS, MOST_WORLDS = 16, 1_000_000_000
@@ -23,10 +25,22 @@ NOBODY = "without processes"
 ASKED_OF = {"stuck": ("stuck", f"* ended {STUCK}"), "blocked": ("* blocked",)}
 
 
+class State(NamedTuple):
+    """What a process is in at an end, and with which code it has ended, if it has."""
+    state: str
+    code: int | None
+
+
+class AtEnd(NamedTuple):
+    """The states of all processes at an end, by their numbers, of which facts are asked as of those of a world."""
+    processes: dict
+
+
 class Answer(NamedTuple):
-    """What the search has written: its ends by their names, each with a schedule, whether somebody is blocked at one,
-    whether some orders come to none, the words of its last line, and the schedule that stands last."""
+    """What the search has written: its ends by their names, each with a schedule, the states at them, whether somebody is
+    blocked at one, whether some orders come to none, the words of its last line, and the schedule that stands last."""
     ends: dict
+    at_ends: list
     has_blocked: bool
     is_endless: bool
     last: list
@@ -46,7 +60,7 @@ def answer_in(lines, telling):
 
 
 def read_answer(lines, telling):
-    ends, states, turns, is_end, has_blocked, is_endless = {}, [], [], False, False, False
+    ends, at_ends, states, turns, is_end, has_blocked, is_endless = {}, [], [], [], False, False, False
     for line in lines[:-1]:
         words = line.split(" ")
         if words[0] == "end":
@@ -59,6 +73,7 @@ def read_answer(lines, telling):
             # above what is bad in the middle of an order there is no end
             if is_end:
                 ends[states_name(states, telling)], is_end = turns, False
+                at_ends.append(AtEnd({pid: state_in(text.split(" ")) for pid, text in states}))
         elif words[0] == "endless":
             is_endless = True
         else:
@@ -66,7 +81,11 @@ def read_answer(lines, telling):
     last = lines[-1].split(" ")
     if last[0] not in (ALL, CUT, MEMORY, BAD):
         raise ValueError(last)
-    return Answer(ends, has_blocked, is_endless, last, turns)
+    return Answer(ends, at_ends, has_blocked, is_endless, last, turns)
+
+
+def state_in(words):
+    return State(words[0], int(words[1]) if words[1:] else None)
 
 
 # ---- assertions
@@ -123,24 +142,58 @@ def is_settled(sight, answer):
     return not (is_of_waits(sight) and answer.has_blocked)
 
 
+# A whole search in which each order has an end at which nobody is blocked.
+AT_BEST = Answer({}, [], False, False, [ALL], [])
+
+
+def may_hold_alone(sight):
+    """Whether the search alone may tell that an assertion holds, with no schedule and no model."""
+    return not sight.is_sometimes and is_settled(sight, AT_BEST)
+
+
+def holds_alone(sight, answer):
+    """Whether a whole search tells it, which was asked where the assertion is about one moment of an order."""
+    pids = {pid for end in answer.at_ends for pid in end.processes}
+    if not is_settled(sight, answer) or any(koid not in pids for _, koid in sight.assertion.named_objects()):
+        return False
+    if sight.at_ends:
+        return all(hold(sight.at_ends, end) for end in answer.at_ends)
+    return not (sight.in_worlds and any(hold(sight.in_worlds, end) for end in answer.at_ends))
+
+
 # ---- the search
+
+
+def answers(exploring, most, words, said):
+    """The answers of the lab's own search, which is asked of some words at a time, up to one that isn't whole."""
+    words = list(dict.fromkeys(words))
+    for at in range(0, len(words), MOST_THINGS) or [0]:
+        exploring.progress.say(said)
+        lines = exploring.lab.explored(exploring.short_text, min(most, MOST_WORLDS), words[at:at + MOST_THINGS])
+        answer = answer_in(lines, exploring.telling)
+        yield answer
+        if not answer.is_whole:
+            return
 
 
 def ask(exploring, found, most, words=()):
     """The answer of the lab's own search to what the model has found: it has to have the same ends, and no order with one of
     these words. Where the trace had no room for some orders of the model, it may have found more."""
-    words = list(dict.fromkeys(words))
-    parts = [words[at:at + MOST_THINGS] for at in range(0, len(words), MOST_THINGS)] or [[]]
-    for part in parts:
-        exploring.progress.say(f"{counted(len(found.graph.came), 'world')}; zlab explore goes through them")
-        lines = exploring.lab.explored(exploring.short_text, min(most, MOST_WORLDS), part)
-        answer = answer_in(lines, exploring.telling)
+    said = f"{counted(len(found.graph.came), 'world')}; zlab explore goes through them"
+    for answer in answers(exploring, most, words, said):
         difference = difference_of(found, answer)
         if difference:
             raise parting(exploring, difference)
-        if not answer.is_whole:
-            break
     return answer
+
+
+def ask_alone(exploring, sights, most):
+    """Its answer, where that alone tells that all assertions hold; else nothing."""
+    if not all(map(may_hold_alone, sights)) or outgrows(exploring.first, {}):
+        return None
+    words = [words for sight in sights for words in words_for(sight)]
+    *_, answer = answers(exploring, most, words, "zlab explore goes through all orders")
+    return answer if answer.is_whole and all(holds_alone(sight, answer) for sight in sights) else None
 
 
 def parting(exploring, difference):

@@ -6,11 +6,11 @@ from meaning.scenario import joined
 from meaning.telling import counted
 from meaning.trouble import Trouble
 
-from .asking import BAD, MEMORY, ask, is_of_waits, is_settled, parting, runs_beyond, words_for
+from .asking import BAD, MEMORY, ask, ask_alone, is_of_waits, is_settled, parting, runs_beyond, words_for
 from .bad import Shrinking
 from .deciding import BROKEN, HOLDS, UNDECIDED, Asserted
 from .ends import CAUSES, end_name, end_reasons
-from .exploring import so_far
+from .exploring import Searched, so_far
 from .orders import Place, run_of
 from .paths import lines_in, shortest_orders
 from .report import CONFIRMED, INDENT, NOT_YET, room_text, turns_text
@@ -151,17 +151,23 @@ class Verdicts:
 
 
 class Decided:
-    """All assertions of a scenario, decided by a search of all orders or of a part of them. What was seen has a schedule
-    which the lab runs. That the rest is in no order the lab's own search tells, where it can be asked, and else the model,
-    of which the lab runs each step then."""
+    """All assertions of a scenario, decided by a search of all orders or of a part of them. Where the lab's own search
+    tells that all hold, that is all. Else what was seen by the model has a schedule which the lab runs. That the rest is in
+    no order the lab's own search tells, where it can be asked, and else the model, of which the lab runs each step then."""
 
     def __init__(self, path, exploring, assertions, most, part=(1, 1)):
         self.path, self.exploring, self.assertions = path, exploring, assertions
         self.asserted = Asserted(assertions)
-        self.found = exploring.search(self.asserted, most, part)
-        self.asserted.endless(self.found.endless())
+        self.found, by_model, untold = Searched(exploring, self.asserted, part), (), None
         with so_far(self.found):
-            self.answer, by_model, untold = self.ask(most) if self.found.is_for_lab else (None, (), None)
+            self.answer = ask_alone(exploring, self.asserted.sights, most) if part[1] == 1 else None
+        self.is_alone = self.answer is not None
+        if not self.is_alone:
+            self.found = exploring.search(self.asserted, most, part)
+            self.asserted.endless(self.found.endless())
+        with so_far(self.found):
+            if not self.is_alone and self.found.is_for_lab:
+                self.answer, by_model, untold = self.ask(most)
             self.is_all = self.answer is not None and self.answer.is_whole
             self.has_steps = part[1] > 1 or self.is_all and bool(by_model)
             if self.has_steps:
@@ -213,11 +219,14 @@ class Decided:
         self.see(sights, run)
 
     def tried(self):
+        if self.is_alone:
+            return f"all orders (by zlab explore, {counted(int(self.answer.last[1]), 'world')})"
         return tried_text(self.found, self.exploring, self.answer, self.has_steps)
 
     def refuse_missing(self):
-        """Refuses what is in no order, once all were tried."""
-        for key, things in self.verdicts.missing(self.asserted).items() if self.is_all and self.found.is_whole else ():
+        """Refuses what is in no order, once all were tried by the model."""
+        is_known = self.is_all and self.found.is_whole and not self.is_alone
+        for key, things in self.verdicts.missing(self.asserted).items() if is_known else ():
             at = f"line {self.verdicts.sights[key].assertion.line}: no order has {things}"
             raise Trouble(at if str(self.path) == "-" else f"{self.path}: {at}")
 

@@ -217,6 +217,12 @@ def try_limits_otherwise(tools):
     found = tools.run("explore", "--zlab", searching(tools, ["by 4 items", "2 4", "bad 2 stuck"], 1), longer)
     told = f"{parts}by 2 4 the model doesn't come to 2 stuck, and zlab explore does\n"
     yield "beyond the limit: a bad order", (found.returncode, found.stdout, found.stderr), (2, "", told)
+    # of one who counts for ever without a call it isn't asked
+    (tools.room / "outgrows.zls").write_text("#? never stuck\n" + OUTGROWS)
+    found = tools.run("explore", "--zlab", searching(tools, ["of no kind"], 2), "outgrows.zls")
+    last = "not all orders: some end where the trace has 10 items, more by a line `limit N` (1 world by the model)"
+    yield "beyond all limits", (found.returncode, found.stdout.splitlines()[-1], found.stderr), (
+        5, f"0 broken, 0 hold, 1 not decided; {last}", "")
 
 
 def try_parting(tools):

@@ -79,7 +79,7 @@ def read_answer(lines, telling):
         else:
             turns.append((int(words[0]), int(words[1])))
     last = lines[-1].split(" ")
-    if last[0] not in (ALL, CUT, MEMORY, BAD):
+    if last[0] not in (ALL, CUT, MEMORY, BAD) or last[0] == ALL and not last[1].isdigit():
         raise ValueError(last)
     return Answer(ends, at_ends, has_blocked, is_endless, last, turns)
 

@@ -196,15 +196,16 @@ class Decided:
 
     def answer_of(self, most):
         """The answer of the lab's own search. What it has found where the trace had no room for the model is seen now."""
-        while True:
+        answer = None
+        while answer is None or answer.last[0] == BAD:
             words = [words for sight in self.unseen() for words in words_for(sight)]
             answer = ask(self.exploring, self.found, most, words)
-            if self.found.graph.is_cut:
-                for run in runs_beyond(self.exploring, self.found, answer):
-                    self.see([sight for sight in self.unseen() if sight.is_in_trace(run.lines, run.world)], run)
-            if answer.last[0] != BAD:
-                return answer
-            self.see_bad(" ".join(answer.last[1:]), answer.turns)
+            if answer.last[0] == BAD:
+                self.see_bad(" ".join(answer.last[1:]), answer.turns)
+        if self.found.graph.is_cut:
+            for run in runs_beyond(self.exploring, self.found, answer):
+                self.see([sight for sight in self.unseen() if sight.is_in_trace(run.lines, run.world)], run)
+        return answer
 
     def see(self, sights, run):
         for sight in sights:

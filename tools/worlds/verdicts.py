@@ -92,7 +92,7 @@ class Verdicts:
         """The same where a search was interrupted, and whether the lab has taken them."""
         orders = shortest_for(graph, self.sights) if graph else {
             key: sight.way for key, sight in enumerate(self.sights) if sight.is_seen}
-        return ({key: joined(run_of(self.exploring.first, order).turns) for key, order in orders.items()},
+        return ({key: joined(run_of(self.exploring.roomy, order).turns) for key, order in orders.items()},
                 {key: CONFIRMED if self.exploring.has_taken(order) else NOT_YET for key, order in orders.items()})
 
     # ---- what is told

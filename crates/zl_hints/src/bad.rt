@@ -23,6 +23,9 @@ const SIDES: &str = "; on each side of and stands one of them";
 /// Any process, call or outcome.
 const ANY: &[u8] = b"*";
 
+/// What stands between two pieces.
+const AND: &[u8] = b"and";
+
 /// What a call is that waits.
 const BLOCKED: &[u8] = b"blocked";
 
@@ -84,27 +87,54 @@ fn push_joined(hint: &mut String, alloc: Global, pieces: &[&str]) -> Result<(), 
 /// Adds what is wrong with the piece, if it is known, and tells what it is.
 fn push_piece(hint: &mut String, alloc: Global, piece: &[u8]) -> Result<Piece, AllocError> {
     let words = words_of(alloc, piece)?;
-    match words.as_slice() {
-        [b"and", ..] | [.., b"and"] => wrong(hint, SIDES, &[]),
+    push_words(hint, alloc, words.as_slice())
+}
+
+fn push_words(hint: &mut String, alloc: Global, words: &[&[u8]]) -> Result<Piece, AllocError> {
+    match words {
+        _ if is_open(words) => wrong(hint, SIDES, &[]),
         [pid, ..] if *pid != ANY && decimal(pid).is_none() => {
             let text = "; the PID is #, which is neither a decimal number nor *";
             wrong(hint, text, &[Value::Word(pid)])
         }
-        [_, state] => push_state(hint, alloc, state),
-        [_, b"ended", code] => push_code(hint, code, Piece::Fact),
-        [_, b"has", koid] => push_koid(hint, koid),
-        [_, b"has", koid, rights] => match push_koid(hint, koid)? {
+        [_, more @ ..] => push_behind(hint, alloc, more),
+        [] => Ok(Piece::Wrong),
+    }
+}
+
+/// Whether `and` stands first or last among the words.
+fn is_open(words: &[&[u8]]) -> bool {
+    match (words.first(), words.last()) {
+        (Some(first), Some(last)) => *first == AND || *last == AND,
+        _ => false,
+    }
+}
+
+/// Adds what is wrong with the words behind the process.
+fn push_behind(hint: &mut String, alloc: Global, words: &[&[u8]]) -> Result<Piece, AllocError> {
+    match words {
+        [state] => push_state(hint, alloc, state),
+        [b"ended", code] => push_code(hint, code, Piece::Fact),
+        [b"has", more @ ..] => push_had(hint, more),
+        [call, b"ended", code] if is_call(call) => push_code(hint, code, Piece::Item),
+        [call, status] => push_answer(hint, alloc, call, status),
+        _ => Ok(Piece::Wrong),
+    }
+}
+
+/// Adds what is wrong with the koid and the rights, which may be left out.
+fn push_had(hint: &mut String, words: &[&[u8]]) -> Result<Piece, AllocError> {
+    match words {
+        [koid] => push_koid(hint, koid),
+        [koid, rights] => match push_koid(hint, koid)? {
             Piece::Fact => push_rights(hint, rights),
             _ => Ok(Piece::Wrong),
         },
-        [_, b"has", ..] => wrong(
+        _ => wrong(
             hint,
             "; behind has stand a KOID and one number, RIGHTS",
             &[],
         ),
-        [_, call, b"ended", code] if is_call(call) => push_code(hint, code, Piece::Item),
-        [_, call, status] => push_answer(hint, alloc, call, status),
-        _ => Ok(Piece::Wrong),
     }
 }
 

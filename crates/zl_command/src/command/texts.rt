@@ -51,7 +51,7 @@ The forms of a command line:
       `PID stuck` for an instruction that can't be done, at an end `PID ended CODE`, `PID blocked`
       or `PID created`, and at any moment `PID has KOID [RIGHTS]` for a handle to this object with
       at least these rights, the sum of their numbers; with `*` for any PID, CALL or STATUS. Several
-      of the last four, ` and ` between each two, are for all of that at once, at any moment. The
+      of the last four with `and` between each two are for all of that at once, at any moment. The
       search stops at the first that it meets. The last line is `bad WORDS` then, below the schedule
       up to it.
       `--part K/N`, as 2/4, takes part K of N of all orders: the orders whose first D turns have koids

@@ -161,7 +161,7 @@ def try_limits(tools):
     told = tools.explore("longer.zls").stdout
     yield "its schedule", stepped(tools, "longer.5")[-3:], ["2 process_exit ended 1", "process 2 ended 1", "end schedule"]
     added = tools.run("explore", "--sum", given=told)
-    yield "its sum", (added.returncode, added.stdout.splitlines()[-1].split(";")[0]), (1, "3 broken, 6 hold, 2 not decided")
+    yield "its sum", (added.returncode, added.stdout.splitlines()[-1].split(";")[0]), (1, "3 broken, 7 hold, 1 not decided")
     # the deadlock is seven items away
     text = (EXAMPLES / "locks-crosswise.zls").read_text().split("\n--\n")[0]
     (tools.room / "crosswise.zls").write_text(f"#? never deadlock\nlimit 5\n{text}\n")
@@ -189,9 +189,9 @@ def try_left(tools):
         "polls.zls:1: broken: never 4 process_exit any", "    4 process_exit ended 0", "    4 12",
         "    12 items: a line `limit 12` lets the trace have them",
         "    written to polls.1.turns: zlab step polls.1.zls polls.1.turns",
-        "polls.zls:2: holds: never 4 stuck", "polls.zls:3: not decided: never 4 has event 2", stops,
+        "polls.zls:2: holds: never 4 stuck", "polls.zls:3: holds: never 4 has event 2",
         "polls.zls:4: not decided: never no end", stops,
-        "1 broken, 1 holds, 2 not decided; all orders, some of which have more than 10 items "
+        "1 broken, 2 hold, 1 not decided; all orders, some of which have more than 10 items "
         "(by zlab explore; 2 worlds of the model)"])
     told = tools.explore("--ends", "polls.zls").stdout.splitlines()
     yield "its ends", (told[0].split(" in ")[0], told[2]), (
@@ -341,8 +341,11 @@ def try_alone(tools):
             ("always 2 ended 6", [*END, five], 1, "the only order (by zlab explore; 2 worlds of the model)"),
             ("never 2 ended", [*END, five], 1, "the only order (by zlab explore; 2 worlds of the model)"),
             ("sometimes 2 ended", [*END, five], 0, "the only order (by zlab explore; 2 worlds of the model)"),
-            ("never 2 has job 1", [*END, five], 0,
+            ("never 2 has job 1", [*END, five], 0, "the only order (by zlab explore; 2 worlds of the model)"),
+            ("never 2 has process 2", [*END, five], 0, "the only order (by zlab explore; 2 worlds of the model)"),
+            ("never nobody has job 1 and 2 blocked", [*END, five], 0,
              "the only order (by zlab explore; 2 worlds of the model; the lab ran each step)"),
+            ("never 2 ended 8 and 2 ended 9", [*END, five], 0, "all orders (by zlab explore, 5 worlds)"),
             ("always 2 ended 7", ["end", "process 2 ended 8", "by", "2 1", five], 2, None),
             ("never deadlock", ["end", "process 2 blocked", "by", "2 1", five], 2, None),
             ("never no end", [*END, "endless", five], 2, None)]:

@@ -147,8 +147,10 @@ AT_BEST = Answer({}, [], False, False, [ALL], [])
 
 
 def may_hold_alone(sight):
-    """Whether the search alone may tell that an assertion holds, with no schedule and no model."""
-    return not sight.is_sometimes and is_settled(sight, AT_BEST)
+    """Whether the search alone may tell that an assertion holds, with no schedule and no model, which alone knows of an object
+    whether it is in some order."""
+    facts = sight.in_worlds.facts if sight.in_worlds else ()
+    return not sight.is_sometimes and not any(isinstance(fact, Has) for fact in facts) and is_settled(sight, AT_BEST)
 
 
 def holds_alone(sight, answer):

@@ -14,9 +14,9 @@ mod check_tests;
 #[cfg(test)]
 mod image_tests;
 #[cfg(test)]
-mod object_tests;
-#[cfg(test)]
 mod never_tests;
+#[cfg(test)]
+mod object_tests;
 #[cfg(test)]
 mod order_tests;
 #[cfg(test)]

@@ -13,7 +13,9 @@ use std::alloc::{AllocError, Global};
 use std::io::Write;
 use zl_calls::World;
 use zl_code::ProcState;
-use zl_explore::{Bad, BadTurn, BadWorld, End, Never, Next, Part, Search, named_end, push_together};
+use zl_explore::{
+    Bad, BadTurn, BadWorld, End, Never, Next, Part, Search, named_end, push_together,
+};
 use zl_rights::Pid;
 use zl_trace::{empty_block, push_state, write_all};
 

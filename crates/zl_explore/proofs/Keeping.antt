@@ -10,7 +10,8 @@ use Rattle.zl_code.specs.declared.history.TraceItem.{TraceItem}
 use Rattle.zl_calls.specs.World.{Machine, own_here}
 use Rattle.zl_explore.specs.Bad.{Fits}
 use Rattle.zl_explore.specs.GoingAhead.{Takes, most_ahead, reduced, start_of}
-use Rattle.zl_explore.specs.Kept.{AreTold, Goes, IsBadOrMemory, IsEndAt, IsEndOf, IsWhole, SeesNext, doubling_at, goes_of, never_of, next_of, search_of, sights_of, states_of, tells_of, told_of}
+use Rattle.zl_explore.specs.Kept.{AreTold, Goes, IsBadOrMemory, IsEndAt, IsEndOf, IsWhole, SeesNext, doubling_at, goes_of, never_of, next_of}
+use Rattle.zl_explore.specs.Kept.{search_of, sights_of, states_of, tells_of, told_of}
 use Rattle.zl_explore.specs.Edges.{AreEdges, Comes, HaveEdges}
 use Rattle.zl_explore.specs.Marks.{AllCome, AreWithin, IsEndlessPlace}
 use Rattle.zl_explore.specs.Nodes.{AreWidened, Extends, IsTree, IsWidened, LeadsTo}

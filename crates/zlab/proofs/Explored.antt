@@ -4,7 +4,7 @@ use Rattle.zl_code.specs.Headline.{IsSizedBoot}
 use Rattle.zl_code.specs.Own.{OwnWorld}
 use Rattle.zl_calls.specs.World.{Machine, own_here}
 use Rattle.zlab.specs.Ends.{BeginsEnds, IsSearchText, Sought, WritesEnds, no_end, some_ends}
-use Rattle.zlab.specs.Exploring.{BeginsExplored, Explores, IsBegun, IsExplored, IsSearchOf, ends, refusal, some_explored, unexplored}
+use Rattle.zlab.specs.Exploring.{BeginsExplored, Explores, IsBegun, IsSearchOf, ends, refusal, some_explored, unexplored}
 use Rattle.zlab.specs.declared.fault.Verdict.TheVariants as verdict
 
 module _ (told : Option (List ℕ)) (text : List ℕ) (is_text : IsTextOf told text) (asked : Sought) where

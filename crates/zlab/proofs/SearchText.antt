@@ -24,7 +24,8 @@ use Rattle.zl_explore.proofs.Private.{same_machine}
 use Rattle.zl_trace.proofs.Pages.{begins_longer, begun_behind}
 use Rattle.zlab.specs.Ends.{BeginsEnd, BeginsEnds, BeginsLast, BeginsTurns, Closes, End, IsEndFrom, IsSearchText, PushesEnd, PushesTurns, Says}
 use Rattle.zlab.specs.Ends.{SaysAll, SaysEndless, Sought, schedule_text, together_line}
-use Rattle.zlab.specs.Ends.{WritesEnd, WritesEnds, WritesLast, WritesTurns, all_turns, bad_end, bad_line, bad_turn, bad_world, counts, end_text, endless_line, good_end, good_end_begun}
+use Rattle.zlab.specs.Ends.{WritesEnd, WritesEnds, WritesLast, WritesTurns, all_turns, bad_end, bad_line, bad_turn, bad_world, counts, end_text}
+use Rattle.zlab.specs.Ends.{endless_line, good_end, good_end_begun}
 use Rattle.zlab.specs.Ends.{last_line, named_end, named_end_begun, no_end_begun, no_end_written, no_turns, no_turns_begun, some_ends, sought}
 use Rattle.zlab.specs.Ends.{turns_begun, verdict_word}
 use Rattle.zl_sched.specs.Follows.{turns_of}
@@ -142,7 +143,8 @@ module _ (m : Machine) (asked : Sought) (limit : ℕ) (s : Search) (old mid : Op
               (all (subst IsOnly (sym part_is) only) m still (root ∙ wrote.began) turns last leads nobody);
           none = λ only. subst (HasNone m.programs (own_here m)) bad_is (none (subst IsOnly (sym part_is) only) m still (root ∙ wrote.began));
           clear = λ only. subst (StaysClear m.programs (own_here m)) never_is (clear (subst IsOnly (sym part_is) only) m still (root ∙ wrote.began));
-          known = λ other programs own. subst (λ (x : Machine). IsKnown x asked.part states asked.bad asked.never endless) (sym (same_machine other m programs own))
+          known = λ other programs own. subst (λ (x : Machine). IsKnown x asked.part states asked.bad asked.never endless)
+              (sym (same_machine other m programs own))
               known_here;
           good = wrote.good;
         }

@@ -83,7 +83,8 @@ returns-in-All-clause-ok g c =
     let wrote = c.loop-end.invariant m still began in
     last_written m (sought c.args.search.now) c.args.limit c.loop-end.search _ _ wrote c.ends-ends.result c.ends-ends.ensures
     verdict.Done c.in-All.endless _ (says_all m (sought c.args.search.now) c.args.limit c.loop-end.search _ _ wrote c.next_end.new.self still
-    told.root told.told same c.next_end.new.self.worlds c.in-All.endless told.known told.all told.none told.clear told.endless) _ last)) c.write_last.ensures.verdict c.write_last.ensures.ok
+    told.root told.told same c.next_end.new.self.worlds c.in-All.endless told.known told.all told.none told.clear told.endless) _ last))
+    c.write_last.ensures.verdict c.write_last.ensures.ok
 
 pub returns-in-All-clause-err : goal.returns-in-All-clause-err
 returns-in-All-clause-err g c =

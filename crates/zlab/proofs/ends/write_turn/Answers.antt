@@ -1,4 +1,4 @@
-use Rattle.zlab.proofs.Answering.{both_ok, mapped_err}
+use Rattle.zlab.proofs.Answering.{both_ok}
 use Rattle.zlab.proofs.Common.{[], on_err, sym, ◌∙◌}
 use Rattle.std.specs.Prelude.{string_bytes}
 use Rattle.zlab.proofs.SearchText.{when_ok}

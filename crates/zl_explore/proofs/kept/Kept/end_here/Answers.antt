@@ -63,6 +63,7 @@ returns c =
     subst (λ (new : Kept). Goes old (Some (next.End end)) new) (sym c.move_on-2.ensures)
     (end_told old (moved_on c.keep_told.new.self) c.requires.whole c.requires.end end c.in-Ok-turns_to.turns.items
     is (c.in-Ok-turns_to.ensures {u = tt}) (rw c.deref-4.ensures.value at (c.in-Ok-taken_by.ensures {u = tt}))
-    c.keep_told.ensures.root c.keep_told.ensures.part c.keep_told.ensures.never c.requires.clear c.keep_told.ensures.nodes c.keep_told.ensures.course (ap (λ n. n + 1)
+    c.keep_told.ensures.root c.keep_told.ensures.part c.keep_told.ensures.never c.requires.clear c.keep_told.ensures.nodes
+    c.keep_told.ensures.course (ap (λ n. n + 1)
     c.keep_told.ensures.widened) c.keep_told.ensures.most
     (rw c.deref-5.ensures.value at (c.in-Ok-keep_told.ensures {u = tt}).ok))

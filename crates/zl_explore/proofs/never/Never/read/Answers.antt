@@ -13,5 +13,6 @@ returns-then-not-is_had-clause-yes c =
 pub returns-clause-yes : goal.returns-clause-yes
 returns-clause-yes c =
     at_once c.in-Some.together.items (rw c.in-Some.is at (c.in_ok-together.ensures {u = tt}))
-    (ap (map (λ one. one.items)) (c.in_ok-push-2.ensures {u = tt}).items ∙ map-append (λ one. one.items) c.args.self.now.together.items (c.in-Some.together ∷ []))
+    (ap (map (λ one. one.items)) (c.in_ok-push-2.ensures {u = tt}).items
+    ∙ map-append (λ one. one.items) c.args.self.now.together.items (c.in-Some.together ∷ []))
     refl

@@ -99,8 +99,8 @@ impl Kept {
         })
     }
 
-    /// Goes on until there is an end that wasn't told, an item or a world that may not be, twice as many worlds, or no more
-    /// to go on from.
+    /// Goes on until there is an end that wasn't told, an item or a world that may not be, twice as many
+    /// worlds, or no more to go on from.
     pub fn next_end(&mut self) -> Next
         requires { IsWhole self.old }
         ensures whole { IsWhole self.new }

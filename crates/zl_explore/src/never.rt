@@ -31,8 +31,9 @@ impl Never {
         }
     }
 
-    /// Takes in what these words say, and tells whether they say something: one pattern, or several with
-    /// `and` between them, which may not name processes of one world at once. Only memory can be refused.
+    /// Takes in what these words say, and tells whether they say something: one pattern, of an item or an
+    /// end, or one of a handle or several with `and` between them, which may not name processes of one
+    /// world at once. Words of an item beside others say nothing. Only memory can be refused.
     pub fn read(&mut self, alloc: Global, words: &str) -> Result<bool, AllocError>
         ensures yes { IfOk result (λ is_read. OnTrue is_read (TakesIn words.now self.old self.new)) }
         ensures no { IfOk result (λ is_read. OnFalse is_read (self.new ≡ self.old)) }

@@ -1,11 +1,13 @@
 ghost use Rattle.std.specs.Prelude.{◌≡◌, ◌↔◌, ◌++◌, ◌∷◌, [], IsTrue, OnOk, OnErr, IfErr, IfOk, IfSome, IfNone, Err, All, drop, slice_get};
+ghost use Rattle.zl_rights.specs.Numbers.{bits};
+ghost use Rattle.zl_channel.specs.Named.{has_queued_here};
 ghost use Rattle.zl_channel.specs.Queue.{Drains, front_handles, front_sizes, is_too_large_here, refused_message};
 
 use crate::message::Message;
 use std::alloc::{AllocError, Global};
 use std::collections::VecDeque;
 use std::marker::Model;
-use zl_rights::Entry;
+use zl_rights::{Entry, Koid, Rights};
 
 /// Why a message was refused. Each has the message that was to go in.
 ///
@@ -130,6 +132,18 @@ impl ChannelEnd {
             Some(message) => message.handles.as_slice(),
             None => &[],
         }
+    }
+
+    /// Whether a handle in a message that is to be read names the object and has these rights at
+    /// least. It takes no memory.
+    ///
+    /// Source: own profile.
+    pub fn has_named(&self, koid: Koid, rights: Rights) -> bool
+        ensures { result ≡ has_queued_here self.now koid (bits rights) }
+    {
+        self.queue
+            .iter()
+            .any(|message| message.has_named(koid, rights))
     }
 
     /// Takes the first message out, or nothing where the queue is empty. It takes no memory.

@@ -1,9 +1,11 @@
 ghost use Rattle.std.specs.Prelude.{◌≡◌, ◌↔◌, IsTrue, IfOk};
+ghost use Rattle.zl_rights.specs.Numbers.{bits};
+ghost use Rattle.zl_channel.specs.Named.{is_named_by};
 
 use smallvec::SmallVec;
 use std::alloc::{AllocError, Global};
 use std::marker::Model;
-use zl_rights::Entry;
+use zl_rights::{Entry, Koid, Rights};
 
 /// The handles in a message. Four lie in the message itself, and more of them take memory.
 ///
@@ -47,6 +49,18 @@ impl Message {
         ensures { IsTrue result ↔ self.now ≡ other.now }
     {
         self.bytes == other.bytes && are_same_handles(&self.handles, &other.handles)
+    }
+
+    /// Whether a handle in the message names the object and has these rights at least. It takes no
+    /// memory.
+    ///
+    /// Source: own profile.
+    pub fn has_named(&self, koid: Koid, rights: Rights) -> bool
+        ensures { result ≡ is_named_by self.now.handles koid (bits rights) }
+    {
+        self.handles
+            .iter()
+            .any(|entry| entry.koid == koid && rights.within(entry.rights))
     }
 }
 

@@ -103,3 +103,36 @@ fn a_push_without_memory_hands_the_message_back(rt: HostRuntime) {
     }
     assert!(rt; end.is_empty());
 }
+
+/// The rights have to be those of one handle: what two of them have together isn't enough.
+#[test]
+fn an_object_is_named_while_a_handle_with_the_rights_is_queued(
+    rt: HostRuntime,
+) -> Result<(), Fail> {
+    let mut end = ChannelEnd::new(rt.alloc());
+    assert!(rt; !end.has_named(10, Rights::NONE));
+    assert!(rt; end.push(message(rt.alloc(), 1, &[])?).is_ok());
+    assert!(rt; end.push(message(rt.alloc(), 0, &[11, 10])?).is_ok());
+    assert!(rt; end.has_named(10, Rights::NONE));
+    assert!(rt; end.has_named(10, Rights::READ));
+    assert!(rt; !end.has_named(10, Rights::WRITE));
+    assert!(rt; !end.has_named(12, Rights::NONE));
+    let mut handles = Handles::new(rt.alloc());
+    handles.push(Entry {
+        rights: Rights::WRITE,
+        ..event(10)
+    })?;
+    let last = Message {
+        bytes: Vec::new(rt.alloc()),
+        handles,
+    };
+    assert!(rt; end.push(last).is_ok());
+    assert!(rt; end.has_named(10, Rights::WRITE));
+    assert!(rt; !end.has_named(10, Rights::READ.union(Rights::WRITE)));
+    assert!(rt; end.take().is_some());
+    assert!(rt; end.take().is_some());
+    assert!(rt; !end.has_named(11, Rights::NONE));
+    assert!(rt; !end.has_named(10, Rights::READ));
+    assert!(rt; end.has_named(10, Rights::WRITE));
+    Ok(())
+}

@@ -19,3 +19,4 @@ pub mod Due
 pub mod Gapped
 pub mod Groups
 pub mod Same
+pub mod Queued

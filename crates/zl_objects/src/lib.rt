@@ -28,6 +28,7 @@ mod object;
 mod objects;
 mod port_waits;
 mod ports;
+mod queued;
 mod quiet;
 mod releasing;
 mod signals;

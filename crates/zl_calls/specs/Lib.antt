@@ -27,3 +27,4 @@ pub mod Calling
 pub mod Taken
 pub mod Rested
 pub mod Same
+pub mod Sights

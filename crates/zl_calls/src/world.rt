@@ -12,6 +12,7 @@ ghost use Rattle.zl_code.specs.Sound.{IsSound};
 ghost use Rattle.zl_code.specs.Starting.{program_of};
 ghost use Rattle.zl_code.specs.Steps.{Runs};
 ghost use Rattle.zl_calls.specs.World.{call_for, has_in, state_in, is_ready_in, own_here};
+ghost use Rattle.zl_calls.specs.Sights.{has_queued_in, kind_there};
 ghost use Rattle.zl_calls.specs.Makes.{IsReached};
 ghost use Rattle.zl_calls.specs.Steps.{Performs, StepsTo, local_item, takes_memory};
 ghost use Rattle.zl_calls.specs.Own.{StepsOwn};
@@ -35,7 +36,7 @@ use std::marker::Model;
 use zl_code::{Boot, BootCause, BootFault, CallName, Image, Outcome, ProcState, TraceItem};
 use zl_interp::{Cpu, Done, Library, Spent, Turn};
 use zl_objects::Objects;
-use zl_rights::{Koid, Pid, Rights, Status};
+use zl_rights::{Kind, Koid, Pid, Rights, Status};
 
 /// The running world: its programs, every process ever made, and the objects.
 ///
@@ -235,6 +236,23 @@ impl World {
         };
         let process = &self.parts.processes.list[place];
         process.table.has_named(koid, rights)
+    }
+
+    /// Whether a handle in a message that is queued names the object with these rights at least. It
+    /// takes no memory.
+    ///
+    /// Source: own profile.
+    pub fn has_queued(&self, koid: Koid, rights: Rights) -> bool
+        ensures { result ≡ has_queued_in self.now.world koid (bits rights) }
+    {
+        self.parts.objects.has_queued(koid, rights)
+    }
+
+    /// The kind of the object; nothing where none of this koid is there.
+    pub fn kind_of(&self, koid: Koid) -> Option<Kind>
+        ensures { result ≡ kind_there self.now.world koid }
+    {
+        self.parts.objects.kind_of(koid)
     }
 
     /// The image that the process runs; nothing for a number that was never a process.

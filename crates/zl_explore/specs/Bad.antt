@@ -1,6 +1,5 @@
--- What no order may have: items that patterns name, and what processes are in at an end.
-use Rattle.std.specs.Prelude.{ℕ, ◌≡◌, ◌==◌, if◌then◌else◌, map, List, [], ◌∷◌, ◌++◌, codes, Option, None, Some}
-use Rattle.std.specs.List.{flat_map}
+-- Patterns: of items, and of what processes are in or have.
+use Rattle.std.specs.Prelude.{ℕ, ◌≡◌, ◌==◌, if◌then◌else◌, List, [], ◌++◌, codes, Option, None, Some}
 use Rattle.std.specs.Fmt.{decimal, signed_decimal}
 use Rattle.zl_rights.specs.Names.{status_name}
 use Rattle.zl_rights.specs.Numbers.{bits}
@@ -14,7 +13,6 @@ use Rattle.zl_code.specs.declared.history.TraceItem.{TraceItem}
 use Rattle.zl_code.specs.declared.history.TraceItem.TheVariants as item
 use Rattle.zl_explore.specs.Paths.{IsIn}
 use Rattle.zl_explore.specs.declared.bad.Bad.{Bad}
-use Rattle.zl_explore.specs.declared.never.Never.{Never}
 use Rattle.zl_explore.specs.declared.bad.What.{What}
 use Rattle.zl_explore.specs.declared.bad.What.TheVariants as what
 
@@ -54,6 +52,7 @@ abbrev pub IsState : What → ProcState → Type 0
 IsState (what.Ended code) s = s ≡ state.Ended code
 IsState what.Blocked s = s ≡ state.Blocked
 IsState what.Created s = s ≡ state.Created
+IsState what.Ready s = s ≡ state.Ready
 IsState _ s = ⊥
 
 -- the pattern names what the process is in at an end
@@ -103,23 +102,9 @@ what_words what.Stuck = codes "stuck"
 what_words (what.Ended code) = codes "ended " ++ signed_decimal code
 what_words what.Blocked = codes "blocked"
 what_words what.Created = codes "created"
+what_words what.Ready = codes "ready"
 what_words (what.Has koid rights) = codes "has " ++ (decimal koid ++ right_words (bits rights))
 
 -- the words of a pattern
 abbrev pub words_of : Bad → List ℕ
 words_of b = who_words b.pid ++ (codes " " ++ what_words b.what)
-
--- those of one more
-abbrev pub further_words : Bad → List ℕ
-further_words b = codes " and " ++ words_of b
-
--- the words of what may not be so at once
-abbrev pub together_words : List Bad → List ℕ
-together_words [] = []
-together_words (b ∷ more) = words_of b ++ flat_map further_words more
-
--- the words say what was taken in: one pattern, or several that may not be seen at once
-pub data TakesIn (words : List ℕ) (old new : Never) : Type 0 where
-  one : (b : Bad) → words ≡ words_of b → new.bad.items ≡ old.bad.items ++ (b ∷ []) → new.together ≡ old.together → TakesIn words old new
-  at_once : (together : List Bad) → words ≡ together_words together
-      → map (λ one. one.items) new.together.items ≡ map (λ one. one.items) old.together.items ++ (together ∷ []) → new.bad ≡ old.bad → TakesIn words old new

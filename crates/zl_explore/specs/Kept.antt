@@ -12,9 +12,9 @@ use Rattle.zl_explore.specs.Private.{RestsStill}
 use Rattle.zl_explore.specs.Running.{ready_of, told_at}
 use Rattle.zl_explore.specs.Quiet.{AreQuiet}
 use Rattle.zl_explore.specs.Searching.{Search, States}
-use Rattle.zl_explore.specs.Sights.{AreClear, Sees, Sight, sights_in}
+use Rattle.zl_explore.specs.Sights.{AreClear, Sees, Sights, sights_in}
 use Rattle.zl_explore.specs.Telling.{Leads, Tells, TellsCut}
-use Rattle.zl_explore.specs.declared.bad.Bad.{Bad}
+use Rattle.zl_explore.specs.declared.fact.Fact.{Fact}
 use Rattle.zl_explore.specs.declared.ends.Next.{Next}
 use Rattle.zl_explore.specs.declared.ends.Next.TheVariants as next
 use Rattle.zl_explore.specs.declared.kept.Kept.{Kept}
@@ -40,12 +40,12 @@ states_of m = told_in (own_here m)
 abbrev pub told_of : Kept → List States
 told_of k = map (λ states. states.items) k.told.items
 
--- what is seen of each process
-abbrev pub sights_of : Machine → List (ℕ × Sight)
+-- what is seen of a world
+abbrev pub sights_of : Machine → Sights
 sights_of m = sights_in (own_here m)
 
 -- what may not be so at once
-abbrev pub never_of : Kept → List (List Bad)
+abbrev pub never_of : Kept → List (List Fact)
 never_of k = map (λ together. together.items) k.never.together.items
 
 -- what is seen of it
@@ -76,7 +76,7 @@ pub record IsEndAt (nodes : List (Node (Parted Machine))) (place : ℕ) : Type 0
   pub nobody : goes_of node.at ≡ []
 
 -- what may not be so at once and is seen in the world at the place; nothing where none is
-abbrev pub SeesNext : Kept → Option (List Bad) → Type 0
+abbrev pub SeesNext : Kept → Option (List Fact) → Type 0
 SeesNext k found = IfSome (slice_get k.nodes.items k.widened) (λ n. Sees (never_of k) (sights_of n.at.at) found)
 
 -- what each process is in, where an order of the part comes to an end in the world; nothing where none does

@@ -4,6 +4,7 @@ pub mod Orders
 pub mod Running
 pub mod Paths
 pub mod Bad
+pub mod Facts
 pub mod Part
 pub mod Parts
 pub mod Nodes

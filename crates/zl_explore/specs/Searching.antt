@@ -15,6 +15,7 @@ use Rattle.zl_explore.specs.Paths.{IsIn}
 use Rattle.zl_explore.specs.Running.{ready_of, rested_machine, told_at}
 use Rattle.zl_explore.specs.Sights.{StaysClearOf, sights_in}
 use Rattle.zl_explore.specs.declared.bad.Bad.{Bad}
+use Rattle.zl_explore.specs.declared.fact.Fact.{Fact}
 
 -- what each process is in, by koid
 abbrev pub States : Type 0
@@ -62,12 +63,12 @@ pub record IsEndless (lib : Library) (o : OwnWorld) : Type 0 where
   pub never : CanEnd lib last → ⊥
 
 -- what is known of the orders of a part from the machine on, each turn up to the next call
-pub record IsKnown (m : Machine) (part : Part) (ends : List States) (bad : List Bad) (never : List (List Bad)) (endless : Bool) : Type 0 where
+pub record IsKnown (m : Machine) (part : Part) (ends : List States) (bad : List Bad) (never : List (List Fact)) (endless : Bool) : Type 0 where
   -- those that come to an end come to one of these
   pub all : AreAllOf ready_of reduced (start_of (rested_machine m)) part (λ u. told_in (own_here u)) ends
   -- none has an item that a pattern names
   pub none : HasNoneOf ready_of reduced (start_of (rested_machine m)) part told_at bad
-  -- none leads to where all that is listed together is seen at once
+  -- none leads to where all that is listed together is so at once
   pub clear : StaysClearOf ready_of reduced (start_of (rested_machine m)) part (λ u. sights_in (own_here u)) never
   -- and where none goes on for ever, each comes to an end or out of the part
   pub come : endless ≡ false → AllComeOn ready_of reduced (start_of (rested_machine m)) part
@@ -78,7 +79,7 @@ pub record Search : Type 0 where
   pub root : Machine
   pub told : List States
   pub bad : List Bad
-  pub never : List (List Bad)
+  pub never : List (List Fact)
   pub part : Part
   pub most : ℕ
   pub worlds : ℕ

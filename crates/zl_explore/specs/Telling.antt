@@ -7,6 +7,7 @@ use Rattle.zl_explore.specs.Private.{IsStill}
 use Rattle.zl_explore.specs.Sights.{IsBadWorld, StaysClear}
 use Rattle.zl_explore.specs.Searching.{AreAll, BeganWith, HasNone, IsBadOrder, IsEnd, IsEndless, IsKnown, Search, States}
 use Rattle.zl_explore.specs.declared.bad.Bad.{Bad}
+use Rattle.zl_explore.specs.declared.fact.Fact.{Fact}
 use Rattle.zl_explore.specs.declared.ends.Next.{Next}
 use Rattle.zl_explore.specs.declared.ends.Next.TheVariants as next
 
@@ -20,8 +21,8 @@ pub record LeadsToBad (s : Search) (turns : List ℕ) (b : Bad) : Type 0 where
   pub is_in : IsIn s.bad b
   pub leads : (m : Machine) → IsStill (own_here m) → BeganWith m s → IsBadOrder m.programs (own_here m) turns b
 
--- what was seen at once is so listed, in a world to which these turns lead from the one that the search began with
-pub record LeadsToWorld (s : Search) (turns : List ℕ) (together : List Bad) : Type 0 where
+-- what is so at once is so listed, in a world to which these turns lead from the one that the search began with
+pub record LeadsToWorld (s : Search) (turns : List ℕ) (together : List Fact) : Type 0 where
   pub is_in : IsIn s.never together
   pub leads : (m : Machine) → IsStill (own_here m) → BeganWith m s → IsBadWorld m.programs (own_here m) turns together
 
@@ -53,7 +54,7 @@ abbrev pub TellsNone : Next → Search → Type 0
 TellsNone (next.All endless) s = IsOnly s.part → (m : Machine) → IsStill (own_here m) → BeganWith m s → HasNone m.programs (own_here m) s.bad
 TellsNone _ s = Unit {0}
 
--- and none leads to a world in which what may not be so at once is seen
+-- and none leads to a world in which what may not be so at once is
 abbrev pub TellsClear : Next → Search → Type 0
 TellsClear (next.All endless) s = IsOnly s.part → (m : Machine) → IsStill (own_here m) → BeganWith m s → StaysClear m.programs (own_here m) s.never
 TellsClear _ s = Unit {0}

@@ -34,6 +34,8 @@ pub enum What {
     Blocked,
     /// At an end the process was made and never started.
     Created,
+    /// The process may go.
+    Ready,
     /// The process has a handle to the object of this koid, with these rights at least.
     Has {
         koid: Koid,
@@ -107,6 +109,7 @@ impl What {
             (What::Ended(code), ProcState::Ended(other)) => code == other,
             (What::Blocked, ProcState::Blocked) => true,
             (What::Created, ProcState::Created) => true,
+            (What::Ready, ProcState::Ready) => true,
             _ => false,
         }
     }
@@ -125,6 +128,7 @@ impl What {
             What::Ended(code) => write!(text, "ended {code}"),
             What::Blocked => text.push_str("blocked"),
             What::Created => text.push_str("created"),
+            What::Ready => text.push_str("ready"),
             What::Has { koid, rights } if rights.is_empty() => write!(text, "has {koid}"),
             What::Has { koid, rights } => write!(text, "has {koid} {}", rights.bits()),
         }
@@ -231,7 +235,7 @@ pub fn read_bad(alloc: Global, words: &str) -> Result<Option<Bad>, AllocError>
 }
 
 /// What the words may stand for, in whatever spelling of numbers.
-fn guessed(words: &str) -> Option<Bad> {
+pub fn guessed(words: &str) -> Option<Bad> {
     let mut parts = words.split(' ');
     let pid = match parts.next()? {
         "*" => None,
@@ -251,20 +255,18 @@ fn guessed_alone(word: &str) -> Option<What> {
         "stuck" => Some(What::Stuck),
         "blocked" => Some(What::Blocked),
         "created" => Some(What::Created),
+        "ready" => Some(What::Ready),
         _ => None,
     }
 }
 
 /// What the koid of an object and, if they stand there, rights stand for.
-fn guessed_has(koid: &str, rights: Option<&str>) -> Option<What> {
+pub fn guessed_handle(koid: &str, rights: Option<&str>) -> Option<(Koid, Rights)> {
     let rights = match rights {
         Some(number) => Rights::from_bits(number.parse::<u32>().ok()?)?,
         None => Rights::NONE,
     };
-    Some(What::Has {
-        koid: koid.parse::<Koid>().ok()?,
-        rights,
-    })
+    Some((koid.parse::<Koid>().ok()?, rights))
 }
 
 /// What two or three words behind the process stand for.
@@ -273,7 +275,8 @@ fn guessed_pair(first: &str, second: &str, third: Option<&str>) -> Option<What> 
         return Some(What::Ended(second.parse::<i32>().ok()?));
     }
     if first == "has" {
-        return guessed_has(second, third);
+        let (koid, rights) = guessed_handle(second, third)?;
+        return Some(What::Has { koid, rights });
     }
     let call = match first {
         "*" => None,

@@ -5,6 +5,7 @@ ghost use Rattle.zl_calls.specs.World.{own_here};
 ghost use Rattle.zl_explore.specs.Orders.{told_in};
 
 use crate::bad::Bad;
+use crate::fact::Fact;
 use std::alloc::{AllocError, Global};
 use zl_calls::World;
 use zl_code::ProcState;
@@ -28,13 +29,13 @@ pub struct BadTurn {
     pub bad: Bad,
 }
 
-/// Where an order leads to a world in which patterns that are listed together are seen at once.
+/// Where an order leads to a world in which facts that are listed together are so at once.
 #[derive(Drop)]
 pub struct BadWorld {
     /// Whose turns lead there, in their order.
     pub turns: Vec<Pid>,
-    /// The patterns.
-    pub together: Vec<Bad>,
+    /// The facts.
+    pub together: Vec<Fact>,
 }
 
 /// How a search goes on.
@@ -44,7 +45,7 @@ pub enum Next {
     End(End),
     /// An order has an item that may not be.
     Bad(BadTurn),
-    /// An order leads to a world in which what may not be so at once is seen.
+    /// An order leads to a world in which what may not be so at once is.
     BadWorld(BadWorld),
     /// There is no other end, whatever the order, and nothing that may not be.
     All {

@@ -14,6 +14,7 @@ ghost use Rattle.zl_explore.specs.Telling.{Leads, Lessens, Tells, TellsAll, Tell
 use crate::bad::Bad;
 use crate::edges::endless_place;
 use crate::ends::{BadTurn, BadWorld, End, Next, are_same, digest_of};
+use crate::fact::Fact;
 use crate::machine::Machine;
 use crate::met::Met;
 use crate::never::Never;
@@ -205,7 +206,7 @@ impl Kept {
     }
 
     /// What may not be so at once, and is in the next world. Only memory can be refused.
-    fn bad_world(&self) -> Result<Option<Vec<Bad>>, AllocError>
+    fn bad_world(&self) -> Result<Option<Vec<Fact>>, AllocError>
         requires whole { IsWhole self.now }
         requires within { self.now.widened < length self.now.nodes.items }
         ensures { IfOk result (λ found. SeesNext self.now
@@ -222,7 +223,7 @@ impl Kept {
     }
 
     /// Tells of the next world, in which that is so at once.
-    fn tell_world(&self, together: Vec<Bad>) -> Next
+    fn tell_world(&self, together: Vec<Fact>) -> Next
         requires whole { IsWhole self.now }
         requires within { self.now.widened < length self.now.nodes.items }
         requires sees { SeesNext self.now (Some together.items) }

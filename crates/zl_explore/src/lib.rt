@@ -11,6 +11,7 @@ mod ahead;
 mod bad;
 mod edges;
 mod ends;
+mod fact;
 mod kept;
 mod laws;
 mod machine;
@@ -25,6 +26,7 @@ mod sights;
 
 pub use bad::{Bad, What, named_end, read_bad};
 pub use ends::{BadTurn, BadWorld, End, Next};
+pub use fact::{Fact, Seen};
 pub use laws::{parts_come_to_ends, parts_have_all_ends, parts_have_none, parts_stay_clear};
 pub use never::{Never, push_together};
 pub use orders::Search;

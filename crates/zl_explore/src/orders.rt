@@ -68,7 +68,7 @@ impl Search {
     /// began, and so does such an item, which is the last one's, or such a world. `All` comes only where
     /// every order of turns, of any length, that comes to a world in which nobody is ready comes to the
     /// states of an end that was told, and none has an item that a pattern names, or leads to a world in
-    /// which patterns that are listed together are seen at once; it says whether one leads to a world from
+    /// which facts that are listed together are so at once; it says whether one leads to a world from
     /// which none comes to an end any more. Of a part it says as much of the orders of that. `Doubled` says
     /// that the search goes on, and comes first at 100,000 worlds. `Cut` comes only where as many worlds
     /// were met as there may be. Behind an end, and where worlds have doubled, there is less to go on from,

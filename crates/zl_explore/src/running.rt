@@ -11,8 +11,8 @@ ghost use Rattle.zl_explore.specs.Sights.{AreSeen, IsClear, sights_in};
 ghost use Rattle.zl_explore.specs.Running.{ready_of, rested_machine, told_at};
 
 use crate::ahead::{begin, take_turn};
-use crate::bad::Bad;
 use crate::ends::{mixed, number_of, states_of};
+use crate::fact::Fact;
 use crate::machine::Machine;
 use crate::sights::seen_at_once;
 use std::alloc::{AllocError, Global};
@@ -55,8 +55,8 @@ impl Running {
         states_of(self.alloc, &self.world)
     }
 
-    /// The first of these lists of which each pattern names a process, at once.
-    pub fn seen_at_once<'a>(&self, never: &'a [Vec<Bad>]) -> Option<&'a Vec<Bad>>
+    /// The first of these lists of which each fact is so, at once.
+    pub fn seen_at_once<'a>(&self, never: &'a [Vec<Fact>]) -> Option<&'a Vec<Fact>>
         ensures some { IfSome result (λ together. IsIn (map (λ one. one.items) never.now) together.now.items
             × AreSeen together.now.items (sights_in (own_here self.now))) }
         ensures none { IfNone result (IsClear (map (λ one. one.items) never.now)

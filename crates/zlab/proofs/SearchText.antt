@@ -18,6 +18,7 @@ use Rattle.zl_explore.specs.declared.bad.Bad.{Bad}
 use Rattle.zl_explore.specs.declared.ends.BadTurn.{BadTurn}
 use Rattle.zl_explore.specs.declared.ends.BadWorld.{BadWorld}
 use Rattle.zl_explore.specs.declared.ends.End.{End as Told}
+use Rattle.zl_explore.specs.declared.fact.Fact.{Fact}
 use Rattle.zl_explore.specs.declared.ends.Next.TheVariants as next
 use Rattle.zl_explore.proofs.Lists.{get_either}
 use Rattle.zl_explore.proofs.Private.{same_machine}
@@ -162,7 +163,7 @@ module _ (m : Machine) (asked : Sought) (limit : ℕ) (s : Search) (old mid : Op
   -- those of a world that may not be
   pub closes_world : (w : BadWorld) → IsStill (own_here m) → Leads (Some (next.BadWorld w)) s → ClosesWith w.turns.items (together_line w.together.items)
   closes_world w still leads schedule turns =
-      bad_world w.together.items (subst (λ (x : List (List Bad)). IsIn x w.together.items) (ap (λ (x : Sought). x.never) wrote.same) leads.is_in) schedule
+      bad_world w.together.items (subst (λ (x : List (List Fact)). IsIn x w.together.items) (ap (λ (x : Sought). x.never) wrote.same) leads.is_in) schedule
       (subst (λ turns. IsBadWorld m.programs (own_here m) turns w.together.items) (sym turns) (leads.leads m still wrote.began))
 
   module _ (turns line : List ℕ) (closes : ClosesWith turns line) where

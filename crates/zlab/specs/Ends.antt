@@ -6,7 +6,8 @@ use Rattle.std.specs.List.{flat_map}
 use Rattle.zl_code.specs.Common.{Library}
 use Rattle.zl_code.specs.Own.{OwnWorld}
 use Rattle.zl_code.specs.declared.history.ProcState.{ProcState}
-use Rattle.zl_explore.specs.Bad.{FitsOne, IsGoodEnd, NamesEnd, together_words, words_of}
+use Rattle.zl_explore.specs.Bad.{FitsOne, IsGoodEnd, NamesEnd, words_of}
+use Rattle.zl_explore.specs.Facts.{together_words}
 use Rattle.zl_calls.specs.World.{Machine, own_here}
 use Rattle.zl_explore.specs.Part.{IsOnly, Part}
 use Rattle.zl_explore.specs.Paths.{IsIn}
@@ -14,6 +15,7 @@ use Rattle.zl_explore.specs.Searching.{AreAll, HasNone, IsBadOrder, IsEnd, IsEnd
 use Rattle.zl_explore.specs.Sights.{IsBadWorld, StaysClear}
 use Rattle.zl_explore.specs.declared.bad.Bad.{Bad}
 use Rattle.zl_explore.specs.declared.ends.End.{End as Told}
+use Rattle.zl_explore.specs.declared.fact.Fact.{Fact}
 use Rattle.zl_sched.specs.Follows.{turns_of}
 use Rattle.zl_trace.specs.Output.{AppendsBeginning}
 use Rattle.zl_trace.specs.Text.{state_line}
@@ -33,7 +35,7 @@ IsEndFrom lib o e = IsEnd lib o (turns_of e.schedule) e.states
 -- what is asked of a search: what no order may have, what may not be so at once, of which part the orders are, and how many worlds there may be
 pub record Sought : Type 0 where
   pub bad : List Bad
-  pub never : List (List Bad)
+  pub never : List (List Fact)
   pub part : Part
   pub most : ℕ
 
@@ -66,8 +68,8 @@ end_text limit e = codes "end\n" ++ (flat_map (λ p. state_line p.0 p.1) e.state
 abbrev pub bad_line : Bad → List ℕ
 bad_line b = codes "bad " ++ (words_of b ++ codes "\n")
 
--- the same of patterns that name what is so at once
-abbrev pub together_line : List Bad → List ℕ
+-- the same of facts that are so at once
+abbrev pub together_line : List Fact → List ℕ
 together_line together = codes "bad " ++ (together_words together ++ codes "\n")
 
 -- the last line: how far the search came, and what it counted
@@ -96,7 +98,7 @@ SaysEndless true lib o part = IsEndless lib o
 SaysEndless false lib o part = IsOnly part → IsEndless lib o → ⊥
 
 -- every order that comes to an end comes to one of these, none of which a pattern names, no order has an item that one names, and none leads
--- to a world in which what may not be so at once is seen; of a part that is known of its own orders
+-- to a world in which what may not be so at once is; of a part that is known of its own orders
 pub record SaysAll (lib : Library) (o : OwnWorld) (asked : Sought) (endless : Bool) (ends : List End) : Type 0 where
   pub all : IsOnly asked.part → AreAll lib o (map (λ e. e.states) ends)
   pub none : IsOnly asked.part → HasNone lib o asked.bad
@@ -112,7 +114,7 @@ Says verdict.Memory false lib o asked worlds ends = Unit {0}
 Says _ _ lib o asked worlds ends = ⊥
 
 -- what stands behind the ends: counts, or the pattern that names what an order has, which is the last of these, or an item of the last
--- turn of a schedule; or the patterns that name what is so at once where a schedule leads
+-- turn of a schedule; or the facts that are so at once where a schedule leads
 pub data Closes (lib : Library) (o : OwnWorld) (asked : Sought) (limit : ℕ) (ends : List End) : Verdict → List ℕ → Type 0 where
   counts : (v : Verdict) (endless : Bool) (worlds turns : ℕ) → Says v endless lib o asked worlds ends
       → Closes lib o asked limit ends v (endless_line endless ++ last_line (verdict_word v) worlds turns (length ends))
@@ -120,7 +122,7 @@ pub data Closes (lib : Library) (o : OwnWorld) (asked : Sought) (limit : ℕ) (e
       → Closes lib o asked limit ends verdict.Bad (bad_line b)
   bad_turn : (b : Bad) → IsIn asked.bad b → (schedule : List (ℕ × ℕ)) → IsBadOrder lib o (turns_of schedule) b
       → Closes lib o asked limit ends verdict.Bad (schedule_text limit schedule ++ bad_line b)
-  bad_world : (together : List Bad) → IsIn asked.never together → (schedule : List (ℕ × ℕ)) → IsBadWorld lib o (turns_of schedule) together
+  bad_world : (together : List Fact) → IsIn asked.never together → (schedule : List (ℕ × ℕ)) → IsBadWorld lib o (turns_of schedule) together
       → Closes lib o asked limit ends verdict.Bad (schedule_text limit schedule ++ together_line together)
 
 -- the lines are those of a search over all orders from the world

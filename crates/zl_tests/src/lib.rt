@@ -14,6 +14,8 @@ mod check_tests;
 #[cfg(test)]
 mod image_tests;
 #[cfg(test)]
+mod letters;
+#[cfg(test)]
 mod never_tests;
 #[cfg(test)]
 mod object_tests;

@@ -27,6 +27,7 @@ const SPELLED: &[&str] = &[
     "4 has 3",
     "* has 18446744073709551615 12",
     "4 has 3 4096",
+    "* ready",
 ];
 
 /// None of them spells a pattern.
@@ -34,7 +35,10 @@ const NOT_SPELLED: &[&str] = &[
     "",
     "*",
     "6",
-    "* ready",
+    "not * ready",
+    "message has 3",
+    "event 3",
+    "4 readies",
     "* blocked ",
     " * blocked",
     "*  blocked",

@@ -31,6 +31,7 @@ use Rattle.zl_explore.specs.declared.ends.BadWorld.{BadWorld}
 use Rattle.zl_explore.specs.declared.ends.End.{End}
 use Rattle.zl_explore.specs.declared.ends.Next.{Next}
 use Rattle.zl_explore.specs.declared.ends.Next.TheVariants as next
+use Rattle.zl_explore.specs.declared.fact.Fact.{Fact}
 use Rattle.zl_explore.specs.declared.kept.Kept.{Kept}
 use Rattle.zl_explore.specs.declared.met.Node.{Node}
 use Rattle.zl_explore.specs.declared.part.Parted.{Parted}
@@ -116,7 +117,7 @@ module _ (m root : Machine) (part : Part) (nodes : List (Node (Parted Machine)))
   end_leads : ready_of n.at.at ≡ [] → IsEnd m.programs (own_here m) taken (told_in (own_here n.at.at))
   end_leads = is_end m n.at.at taken still.order path comes
 
-  pub world_leads : (together : List Bad) → AreSeen together (sights_of n.at.at) → IsBadWorld m.programs (own_here m) taken together
+  pub world_leads : (together : List Fact) → AreSeen together (sights_of n.at.at) → IsBadWorld m.programs (own_here m) taken together
   world_leads together = is_bad_world m n.at.at taken still.order path comes together
 
   bad_leads : (p : ℕ) (b : Bad) (x : TraceItem) → IsIn (goes_of n.at) p → told_at n.at.at p ≡ Some x → Fits b x
@@ -124,11 +125,11 @@ module _ (m root : Machine) (part : Part) (nodes : List (Node (Parted Machine)))
   bad_leads p b x is_in = is_bad m n.at.at taken still.order path comes p b x (ready_down ready_of reduced n.at p is_in)
 
 -- what is seen in the next world
-pub sees_at : (k : Kept) (found : Option (List Bad)) (n : Node (Parted Machine)) → slice_get k.nodes.items k.widened ≡ Some n → SeesNext k found
+pub sees_at : (k : Kept) (found : Option (List Fact)) (n : Node (Parted Machine)) → slice_get k.nodes.items k.widened ≡ Some n → SeesNext k found
     → Sees (never_of k) (sights_of n.at.at) found
 sees_at k found n there sees = subst (λ (at : Option (Node (Parted Machine))). IfSome at (λ m. Sees (never_of k) (sights_of m.at.at) found)) there sees
 
-pub sees_by : (k : Kept) (found : Option (List Bad)) (n : Node (Parted Machine)) → slice_get k.nodes.items k.widened ≡ Some n
+pub sees_by : (k : Kept) (found : Option (List Fact)) (n : Node (Parted Machine)) → slice_get k.nodes.items k.widened ≡ Some n
     → Sees (never_of k) (sights_of n.at.at) found → SeesNext k found
 sees_by k found n there sees = subst (λ (at : Option (Node (Parted Machine))). IfSome at (λ m. Sees (never_of k) (sights_of m.at.at) found)) (sym there) sees
 
@@ -290,7 +291,7 @@ leads_from (Some (next.Bad b)) s s2 root bad never leads = record {
   leads = λ m still began. leads.leads m still (root ∙ began);
 }
 leads_from (Some (next.BadWorld b)) s s2 root bad never leads = record {
-  is_in = subst (λ (xs : List (List Bad)). IsIn xs b.together.items) never leads.is_in;
+  is_in = subst (λ (xs : List (List Fact)). IsIn xs b.together.items) never leads.is_in;
   leads = λ m still began. leads.leads m still (root ∙ began);
 }
 leads_from (Some (next.All endless)) s s2 root bad never leads = tt

@@ -1,6 +1,5 @@
 pub mod Lists
 pub mod Filtered
-pub mod TogetherWords
 pub mod ReadyProcess
 pub mod Growing
 pub mod Leading

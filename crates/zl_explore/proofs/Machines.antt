@@ -13,6 +13,7 @@ use Rattle.zl_explore.specs.Running.{ready_of, rested_machine, told_at, turned}
 use Rattle.zl_explore.specs.Searching.{CanEnd, IsBadOrder, IsEnd, IsEndless}
 use Rattle.zl_explore.specs.Sights.{AreSeen, IsBadWorld, sights_in}
 use Rattle.zl_explore.specs.declared.bad.Bad.{Bad}
+use Rattle.zl_explore.specs.declared.fact.Fact.{Fact}
 use Rattle.zl_explore.proofs.Ending.{Ends}
 use Rattle.zl_explore.proofs.Resting.{ordered_behind, rested_steps}
 use Rattle.zl_explore.proofs.Seeing.{sights_same}
@@ -88,7 +89,7 @@ module _ (m at : Machine) (turns : List ℕ) (ordered : IsOrdered m.world) (path
   }
 
   -- what is seen there, is seen in a world to which they lead by own steps
-  pub is_bad_world : (together : List Bad) → AreSeen together (sights_in (own_here at)) → IsBadWorld m.programs (own_here m) turns together
+  pub is_bad_world : (together : List Fact) → AreSeen together (sights_in (own_here at)) → IsBadWorld m.programs (own_here m) turns together
   is_bad_world together seen = record {
     last = are.0;
     leads = are.1;

@@ -13,7 +13,7 @@ use Rattle.zl_explore.specs.Reduced.{Ahead, IsReduced}
 use Rattle.zl_explore.specs.Running.{ready_of, rested_machine, turned}
 use Rattle.zl_explore.specs.Searching.{CanEnd}
 use Rattle.zl_explore.specs.Sights.{AreSeen, sights_in}
-use Rattle.zl_explore.specs.declared.bad.Bad.{Bad}
+use Rattle.zl_explore.specs.declared.fact.Fact.{Fact}
 use Rattle.zl_explore.proofs.Ending.{Ends}
 use Rattle.zl_explore.proofs.Endless.{endless_met}
 use Rattle.zl_explore.proofs.Machines.{ends_own}
@@ -62,7 +62,7 @@ module _ (m : Machine) (still : IsStill (own_here m)) (reduced : Machine → ℕ
       none u still_o programs here ends = never (subst (λ lib. CanEnd lib o) programs (ends_own u o still_o.order here ends))
 
   -- what is seen where it leads, is seen in a state that was met
-  pub seen_met : (together : List Bad) → AreSeen together (sights_in o) → (u : Machine) × met u × AreSeen together (sights_in (own_here u))
+  pub seen_met : (together : List Fact) → AreSeen together (sights_in o) → (u : Machine) × met u × AreSeen together (sights_in (own_here u))
   seen_met together seen =
       let along = own_along m.programs (λ u. AreSeen together (sights_in (own_here u))) o
       (λ u still_o programs is. subst (AreSeen together) (sym (ap sights_in is ∙ sights_same o)) seen) turns (rested_machine m) (rests_start m still) refl

@@ -11,8 +11,9 @@ use Rattle.zl_explore.specs.AllParts.{part_of}
 use Rattle.zl_explore.specs.Part.{gone_along, gone_by, goes_on, is_of, none_gone}
 use Rattle.zl_explore.specs.Parts.{AllComeOn, AreAllOf, HasNoneOf}
 use Rattle.zl_explore.specs.Paths.{IsIn, IsPath, after}
-use Rattle.zl_explore.specs.Sights.{IsClear, Sight, StaysClearOf}
+use Rattle.zl_explore.specs.Sights.{IsClear, Sights, StaysClearOf}
 use Rattle.zl_explore.specs.declared.bad.Bad.{Bad}
+use Rattle.zl_explore.specs.declared.fact.Fact.{Fact}
 use Rattle.zl_explore.specs.declared.part.Gone.{Gone}
 use Rattle.zl_explore.proofs.Ending.{Ends}
 use Rattle.zl_explore.proofs.Parts.{after_both, gone_both, gone_stays, path_behind}
@@ -65,7 +66,7 @@ module _ (parts from : ℕ) (some : 0 < parts) where
         let one = is_one turns in have (number turns) one.0 one.1 turns path one.3
 
     -- nor does one lead to where is seen at once what is in none of any part
-    pub clear_parts : (sights : S → List (ℕ × Sight)) (never : List (List Bad))
+    pub clear_parts : (sights : S → Sights) (never : List (List Fact))
         → ((k : ℕ) → 1 ≤ k → k ≤ parts → StaysClearOf ready next start (part_of parts from k) sights never)
         → (turns : List ℕ) → IsPath ready next start turns → IsClear never (sights (after ready next start turns))
     clear_parts sights never have turns path =

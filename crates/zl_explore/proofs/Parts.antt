@@ -12,8 +12,9 @@ use Rattle.zl_explore.specs.Part.{Part, gone_along, gone_by, gone_of, goes_on, i
 use Rattle.zl_explore.specs.Parts.{AllComeOn, AreAllOf, AreToldOf, HasNoneOf, next_in_part, parted, ready_in_part, tells_in_part}
 use Rattle.zl_explore.specs.Paths.{IsIn, IsPath, after}
 use Rattle.zl_explore.specs.Quiet.{AreQuiet}
-use Rattle.zl_explore.specs.Sights.{AreClear, IsClear, Sight, StaysClearOf}
+use Rattle.zl_explore.specs.Sights.{AreClear, IsClear, Sights, StaysClearOf}
 use Rattle.zl_explore.specs.declared.bad.Bad.{Bad}
+use Rattle.zl_explore.specs.declared.fact.Fact.{Fact}
 use Rattle.zl_explore.specs.declared.met.Node.{Node}
 use Rattle.zl_explore.specs.declared.part.Gone.{Gone}
 use Rattle.zl_explore.specs.declared.part.Parted.{Parted}
@@ -167,7 +168,7 @@ module _ {S : Type 0} (ready : S → List ℕ) (next : S → ℕ → S) where
         subst (λ (x : Parted S). (IsIn (ready_in_part ready x) p → IsQuiet bad (tells x.at p))) met.is
         (quiet met.place met.node p (slice_get_within nodes met.place met.node met.there) met.there) (ready_up (there turns) p on is_in)
 
-    pub clear_of : (sights : S → List (ℕ × Sight)) (never : List (List Bad)) → AreClear sights never nodes (length nodes)
+    pub clear_of : (sights : S → Sights) (never : List (List Fact)) → AreClear sights never nodes (length nodes)
         → StaysClearOf ready next start part sights never
     clear_of sights never clear turns path on =
         let met = met_there turns path on in

@@ -18,7 +18,7 @@ use Rattle.zl_explore.specs.Private.{IsLocal, IsStill, RestsStill, Tells, is_loc
 use Rattle.zl_explore.specs.Reduced.{Ahead, ArePrivate, Commutes, Forgets, IsReduced, IsSteady}
 use Rattle.zl_explore.specs.Running.{ready_of, rested_machine, turned}
 use Rattle.zl_explore.specs.Sights.{AreSeen, sights_in}
-use Rattle.zl_explore.specs.declared.bad.Bad.{Bad}
+use Rattle.zl_explore.specs.declared.fact.Fact.{Fact}
 use Rattle.zl_explore.proofs.GoesAhead.{start_ahead, turns_ahead}
 use Rattle.zl_explore.proofs.Local.{MovesOn, cpu_for, either, local_step, moves_on, other_step}
 use Rattle.zl_explore.proofs.Resting.{rested_steps}
@@ -169,7 +169,7 @@ tells_still passes fails s p rests is_in local tells =
     different here = fails tells.told (ap runs_alone (sym tells.step ∙ ap (own_step s.programs (own_here s)) here) ∙ local) tells.is
 
 -- a local instruction leaves what is seen
-pub sights_still : (together : List Bad) → IsSteady ready_of turned RestsStill IsLocal (λ u. AreSeen together (sights_in (own_here u)))
+pub sights_still : (together : List Fact) → IsSteady ready_of turned RestsStill IsLocal (λ u. AreSeen together (sights_in (own_here u)))
 sights_still together s p rests is_in local seen =
     let moves = moves_here s rests p is_in local in
     let step = local_step s.programs rests.own rests.still p moves in

@@ -1,4 +1,4 @@
--- What is seen of the processes of a world: local instructions leave it, and so does what rests.
+-- What is seen of a world: local instructions leave it, and so does what rests.
 use Rattle.zl_code.proofs.Common.{IsTrue, List, Map, None, Option, Process, Some, [], ap, each, get, is_sorted, length, map, nat_cmp, none-some, option_map}
 use Rattle.zl_code.proofs.Common.{refl, same_Some, slice_get, subst, sym, ℕ}
 use Rattle.zl_code.proofs.Common.{◌+◌, ◌∙◌, ◌∷◌, ◌≡◌, ◌≤◌}
@@ -11,8 +11,8 @@ use Rattle.zl_calls.specs.Rested.{own_rested, rested_process}
 use Rattle.zl_calls.specs.World.{Machine, own_here}
 use Rattle.zl_explore.specs.Cpus.{Cpus, own_with, with_cpu}
 use Rattle.zl_explore.specs.Nodes.{Extends}
-use Rattle.zl_explore.specs.Sights.{AreClear, IsClear, Sight, sight_of, sights_in}
-use Rattle.zl_explore.specs.declared.bad.Bad.{Bad}
+use Rattle.zl_explore.specs.Sights.{AreClear, IsClear, Sight, Sights, sight_of, sights_in}
+use Rattle.zl_explore.specs.declared.fact.Fact.{Fact}
 use Rattle.zl_explore.specs.declared.met.Node.{Node}
 use Rattle.zl_explore.specs.declared.part.Parted.{Parted}
 use Rattle.zl_explore.proofs.Lists.{get_below}
@@ -30,22 +30,26 @@ unfolding each
 seen_with f [] = refl
 seen_with f (e ∷ m) = ap (λ ks. (e.0, sight_of (Some e.1)) ∷ ks) (seen_with f m)
 
+-- where processes are seen so
+abbrev processes_seen : (o : OwnWorld) → List (ℕ × Sight) → Sights
+processes_seen o processes = record (sights_in o) { processes = processes }
+
 -- what counts of a world shows the same
 pub sights_same : (o : OwnWorld) → sights_in (own_rested o) ≡ sights_in o
-sights_same o = seen_rested o.world.processes
+sights_same o = ap (processes_seen o) (seen_rested o.world.processes)
 
 -- and so does a world in which some compute with other Cpus
 pub sights_with : (f : Cpus) (o : OwnWorld) → sights_in (own_with f o) ≡ sights_in o
-sights_with f o = seen_with f o.world.processes
+sights_with f o = ap (processes_seen o) (seen_with f o.world.processes)
 
 -- the n-th process is seen so
 module _ (m : Machine) (n pid : ℕ) (sorted : IsTrue (is_sorted nat_cmp m.world.processes))
     (at : Some pid ≡ slice_get (map (λ p. p.0) m.world.processes) n) where
-  pub sight_at : slice_get (sights_in (own_here m)) n ≡ Some (pid, sight_of (get m.world.processes pid))
+  pub sight_at : slice_get (sights_in (own_here m)).processes n ≡ Some (pid, sight_of (get m.world.processes pid))
   sight_at = by_entry (slice_get m.world.processes n) refl
     where
       by_entry : (found : Option (ℕ × Process)) → slice_get m.world.processes n ≡ found
-          → slice_get (sights_in (own_here m)) n ≡ Some (pid, sight_of (get m.world.processes pid))
+          → slice_get (sights_in (own_here m)).processes n ≡ Some (pid, sight_of (get m.world.processes pid))
       by_entry None none =
           absurd (none-some pid (sym (at ∙ (slice_get-map (λ (p : ℕ × Process). p.0) m.world.processes n ∙ ap (option_map (λ (p : ℕ × Process). p.0)) none))))
       by_entry (Some e) some =
@@ -58,7 +62,7 @@ module _ (m : Machine) (n pid : ℕ) (sorted : IsTrue (is_sorted nat_cmp m.world
 
 -- ---- worlds that were met
 
-module _ {S : Type 0} (sights : S → List (ℕ × Sight)) (never : List (List Bad)) where
+module _ {S : Type 0} (sights : S → Sights) (never : List (List Fact)) where
   -- more that were met
   pub clear_grown : (old new : List (Node (Parted S))) (count : ℕ) → Extends old new → count ≤ length old → AreClear sights never old count
       → AreClear sights never new count

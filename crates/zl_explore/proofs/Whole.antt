@@ -16,6 +16,7 @@ use Rattle.zl_explore.specs.Running.{ready_of, rested_machine, told_at, turned}
 use Rattle.zl_explore.specs.Searching.{AreAll, HasNone, IsEndless, IsKnown, States}
 use Rattle.zl_explore.specs.Sights.{AreSeen, IsClear, StaysClear, sights_in}
 use Rattle.zl_explore.specs.declared.bad.Bad.{Bad}
+use Rattle.zl_explore.specs.declared.fact.Fact.{Fact}
 use Rattle.zl_explore.proofs.Ending.{Ends, path_more}
 use Rattle.zl_explore.proofs.Endless.{ends_too}
 use Rattle.zl_explore.proofs.OwnOrders.{endless_own, ends_met, seen_met, tells_met}
@@ -70,7 +71,7 @@ module _ (m : Machine) (still : IsStill (own_here m)) where
       (ap (λ u. told_at u tells.pid) reached.leads ∙ ap (option_map (λ (y : OwnWorld × TraceItem). y.1)) tells.step) tells.is
 
   -- none leads to a world in which what may not be so at once is seen
-  pub whole_clear : (never : List (List Bad)) → ((turns : List ℕ) → IsPath ready_of reduced start turns
+  pub whole_clear : (never : List (List Fact)) → ((turns : List ℕ) → IsPath ready_of reduced start turns
       → IsClear never (sights_in (own_here (after ready_of reduced start turns)))) → StaysClear m.programs (own_here m) never
   whole_clear never clear turns together in_never order =
       let it = seen_met m still reduced (local_reduced most_ahead) start (local_start most_ahead (rested_machine m) (rests_start m still)) Reached closed
@@ -92,7 +93,7 @@ module _ (m : Machine) (still : IsStill (own_here m)) where
 
   -- ---- the law: all parts together are the whole
 
-  module _ (parts from : ℕ) (some : 0 < parts) (told : ℕ → List States) (bad : List Bad) (never : List (List Bad)) (endless : ℕ → Bool)
+  module _ (parts from : ℕ) (some : 0 < parts) (told : ℕ → List States) (bad : List Bad) (never : List (List Fact)) (endless : ℕ → Bool)
       (known : (k : ℕ) → 1 ≤ k → k ≤ parts → IsKnown m (part_of parts from k) (told k) bad never (endless k)) where
     -- the ends that were told of one of them
     pub parts_all : (ends : List States) → ((k : ℕ) (x : States) → 1 ≤ k → k ≤ parts → IsIn (told k) x → IsIn ends x) → AreAll m.programs (own_here m) ends
@@ -111,7 +112,7 @@ module _ (m : Machine) (still : IsStill (own_here m)) where
     parts_come none = whole_come (come_parts parts from some ready_of reduced start (λ k first last. (known k first last).come (none k first last)))
 
   -- the only part is the whole
-  module _ (part : Part) (only : IsOnly part) (ends : List States) (bad : List Bad) (never : List (List Bad)) (endless : Bool)
+  module _ (part : Part) (only : IsOnly part) (ends : List States) (bad : List Bad) (never : List (List Fact)) (endless : Bool)
       (known : IsKnown m part ends bad never endless) where
     each : (k : ℕ) → 1 ≤ k → k ≤ 1 → IsKnown m (part_of 1 part.from k) ends bad never endless
     each k first last = let one : k ≡ 1 = omega (arith, first, last) in

@@ -10,3 +10,4 @@ pub mod Grown
 pub mod Counting
 pub mod Counted
 pub mod Settled
+pub mod Seen

@@ -1,7 +1,7 @@
 //! What may not be so in one world at once, and whether an order leads there.
 
 use crate::letters;
-use crate::order_tests::{never, search_of, told_by};
+use crate::order_tests::{Told, never, search_of, tell, told_by};
 use std::alloc::Global;
 use std::test::*;
 use zl_explore::{Next, Part, Search, push_together};
@@ -208,16 +208,16 @@ fn turns_of_sender(alloc: Global, words: &str) -> Option<usize> {
     turns_to(&mut search)
 }
 
-/// Whether a search comes to its only end, and to nothing that may not be.
-fn comes_to_one_end(search: &mut Search) -> bool {
-    matches!(search.next_end(), Next::End(_))
-        && matches!(search.next_end(), Next::All { endless: false })
+/// What a search over these orders tells.
+fn told_of_sender(alloc: Global, words: &str) -> Option<Told> {
+    let mut search = search_of_letters(alloc, words)?;
+    Some(tell(&mut search))
 }
 
-/// Whether all of this is so nowhere on the way of the sender.
+/// Whether all of this is so nowhere on the way of the sender, which has one end.
 fn is_never_of_sender(alloc: Global, words: &str) -> bool {
-    match search_of_letters(alloc, words) {
-        Some(mut search) => comes_to_one_end(&mut search),
+    match told_of_sender(alloc, words) {
+        Some(told) => told.ends == 1 && told.endless.is_some(),
         None => false,
     }
 }

@@ -154,7 +154,7 @@ fn ends_of(search: &mut Search) -> (usize, Option<bool>) {
 }
 
 /// Goes on to the last end: what was told by then.
-fn tell(search: &mut Search) -> Told {
+pub fn tell(search: &mut Search) -> Told {
     let (ends, endless) = ends_of(search);
     Told {
         ends,

@@ -8,7 +8,7 @@ use std::alloc::{AllocError, Global};
 use zl_code::{CallName, Outcome, ProcState, TraceItem};
 use zl_rights::{Koid, Pid, Rights, Status};
 
-/// What no order may have.
+/// A pattern: of an item, or of what a process is in or has.
 ///
 /// Source: own profile.
 #[derive(Clone, Copy)]

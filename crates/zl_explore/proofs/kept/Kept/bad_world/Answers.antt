@@ -9,8 +9,8 @@ use Rattle.zl_explore.proofs.Keeping.{sees_by}
 use Rattle.zl_explore.proofs.Lists.{there_is}
 use Rattle.zl_explore.proofs.kept.Kept.bad_world.Goals as goal
 
-pub returns-in_ok-to_vec-in-Some : goal.returns-in_ok-to_vec-in-Some
-returns-in_ok-to_vec-in-Some c =
+pub returns-in-Some : goal.returns-in-Some
+returns-in-Some c =
     let k = c.args.self.now in
     let (n, there) = there_is k.nodes.items k.widened c.requires.within in
     let at : c.in_ok-next.next ≡ n.at =
@@ -21,8 +21,8 @@ returns-in_ok-to_vec-in-Some c =
     (subst (λ (s : Parted Machine). Sees (never_of k) (sights_of s.at) (Some c.in-Some.together.now.items)) at
     (rw c.deref.ensures.value at (c.in-Some.ensures {u = tt}).some)))
 
-pub returns-in-None : goal.returns-in-None
-returns-in-None c =
+pub returns : goal.returns
+returns c =
     let k = c.args.self.now in
     let (n, there) = there_is k.nodes.items k.widened c.requires.within in
     let at : c.in_ok-next.next ≡ n.at =

@@ -1,4 +1,4 @@
-use Rattle.zl_code.proofs.Common.{IfNone, IfSome, List, ap, map, subst, sym, ℕ, ◌∙◌}
+use Rattle.zl_code.proofs.Common.{IfNone, IfSome, ap, map, subst, sym, ◌∙◌}
 use Rattle.zl_calls.specs.World.{own_here}
 use Rattle.zl_explore.specs.Paths.{IsIn}
 use Rattle.zl_explore.specs.Sights.{AreSeen, IsClear, Sights, sights_in}

@@ -6,13 +6,14 @@ use bitflags::Flags;
 use std::alloc::{AllocError, Global};
 use zl_code::CallName;
 use zl_program_hints::{Value, push_nearest, push_text, words_of};
-use zl_rights::{Rights, Status};
+use zl_rights::{Kind, Rights, Status};
 
 /// The forms of the words.
 const FORMS: &str = "\
 --bad takes 'PID CALL STATUS', 'PID CALL blocked', 'PID stuck', 'PID ended CODE', 'PID blocked', \
-'PID created' or 'PID has KOID [RIGHTS]', with * for any PID, CALL or STATUS and ' and ' between several \
-of the last four, and \"#\" is none";
+'PID created', 'PID ready', 'PID has KOID [RIGHTS]', 'message has KOID [RIGHTS]' or 'KIND KOID', with * for \
+any PID, CALL or STATUS, 'not ' before any of the last seven and ' and ' between several of them, and \
+\"#\" is none";
 
 /// What is wrong where each word is one that may stand there.
 const SPELLING: &str = "; words stand one space apart, and numbers as in a trace";
@@ -30,17 +31,29 @@ const AND: &[u8] = b"and";
 const BLOCKED: &[u8] = b"blocked";
 
 /// What a process comes to, without a code.
-const STATES: [&str; 3] = ["blocked", "stuck", "created"];
+const STATES: [&str; 4] = ["blocked", "stuck", "created", "ready"];
 
 /// What stands behind a process before a code, and before the koid of an object.
 const MORE: [&str; 2] = ["ended", "has"];
+
+/// What stands first where no process does.
+const FIRST: [&str; 8] = [
+    "message",
+    "not",
+    "process",
+    "channel",
+    "event",
+    "port",
+    "eventpair",
+    "job",
+];
 
 /// What words are that may stand between `and`.
 #[derive(Clone, Copy)]
 enum Piece {
     /// An item, which is of one moment.
     Item,
-    /// What a process is in, or has.
+    /// What is so, or isn't, at a moment.
     Fact,
     /// Something is wrong with them.
     Wrong,
@@ -93,13 +106,50 @@ fn push_piece(hint: &mut String, alloc: Global, piece: &[u8]) -> Result<Piece, A
 fn push_words(hint: &mut String, alloc: Global, words: &[&[u8]]) -> Result<Piece, AllocError> {
     match words {
         _ if is_open(words) => wrong(hint, SIDES, &[]),
-        [pid, ..] if *pid != ANY && decimal(pid).is_none() => {
-            let text = "; the PID is #, which is neither a decimal number nor *";
-            wrong(hint, text, &[Value::Word(pid)])
-        }
+        [b"not"] => wrong(hint, "; behind not stands what isn't so", &[]),
+        [b"not", b"not", ..] => wrong(hint, "; not stands once", &[]),
+        [b"not", more @ ..] => match push_sight(hint, alloc, more)? {
+            Piece::Item => wrong(hint, "; no not stands before a call or stuck", &[]),
+            piece => Ok(piece),
+        },
+        _ => push_sight(hint, alloc, words),
+    }
+}
+
+/// Adds what is wrong with the words, before which `not` may stand.
+fn push_sight(hint: &mut String, alloc: Global, words: &[&[u8]]) -> Result<Piece, AllocError> {
+    match words {
+        [b"message", b"has", more @ ..] => push_had(hint, more),
+        [b"message", ..] => wrong(hint, "; behind message stands has", &[]),
+        [kind, more @ ..] if Kind::named(kind).is_some() => push_object(hint, kind, more),
+        [pid, ..] if *pid != ANY && decimal(pid).is_none() => push_no_process(hint, alloc, pid),
         [_, more @ ..] => push_behind(hint, alloc, more),
         [] => Ok(Piece::Wrong),
     }
+}
+
+/// Adds what is wrong with the words behind the kind.
+fn push_object(hint: &mut String, kind: &[u8], words: &[&[u8]]) -> Result<Piece, AllocError> {
+    match words {
+        [koid] => push_koid(hint, koid),
+        [] => wrong(hint, "; behind # stands a KOID", &[Value::Word(kind)]),
+        _ if kind == b"process".as_slice() => {
+            let text = "; behind process stands a KOID alone, and a PID stands without process";
+            wrong(hint, text, &[])
+        }
+        _ => wrong(hint, "; behind # stands a KOID alone", &[Value::Word(kind)]),
+    }
+}
+
+/// Adds that the word stands for no process, and what was meant.
+fn push_no_process(hint: &mut String, alloc: Global, word: &[u8]) -> Result<Piece, AllocError> {
+    if word == b"nobody".as_slice() {
+        return wrong(hint, "; nobody has is not * has", &[]);
+    }
+    let text = "; the PID is #, which is neither a decimal number nor *";
+    push_text(hint, text, &[Value::Word(word)])?;
+    push_nearest(hint, alloc, word, &FIRST)?;
+    Ok(Piece::Wrong)
 }
 
 /// Whether `and` stands first or last among the words.
@@ -113,9 +163,10 @@ fn is_open(words: &[&[u8]]) -> bool {
 /// Adds what is wrong with the words behind the process.
 fn push_behind(hint: &mut String, alloc: Global, words: &[&[u8]]) -> Result<Piece, AllocError> {
     match words {
+        [b"has", more @ ..] => push_had(hint, more),
+        [b"not", ..] => wrong(hint, "; not stands before the PID", &[]),
         [state] => push_state(hint, alloc, state),
         [b"ended", code] => push_code(hint, code, Piece::Fact),
-        [b"has", more @ ..] => push_had(hint, more),
         [call, b"ended", code] if is_call(call) => push_code(hint, code, Piece::Item),
         [call, status] => push_answer(hint, alloc, call, status),
         _ => Ok(Piece::Wrong),
@@ -125,6 +176,7 @@ fn push_behind(hint: &mut String, alloc: Global, words: &[&[u8]]) -> Result<Piec
 /// Adds what is wrong with the koid and the rights, which may be left out.
 fn push_had(hint: &mut String, words: &[&[u8]]) -> Result<Piece, AllocError> {
     match words {
+        [] => wrong(hint, "; behind has stands a KOID", &[]),
         [koid] => push_koid(hint, koid),
         [koid, rights] => match push_koid(hint, koid)? {
             Piece::Fact => push_rights(hint, rights),
@@ -199,9 +251,6 @@ fn push_state(hint: &mut String, alloc: Global, word: &[u8]) -> Result<Piece, Al
     }
     if word == b"ended".as_slice() {
         return wrong(hint, "; behind ended stands a CODE", &[]);
-    }
-    if word == b"has".as_slice() {
-        return wrong(hint, "; behind has stands a KOID", &[]);
     }
     if is_call(word) {
         let text = "; behind # stands a STATUS, blocked, or * for any outcome";

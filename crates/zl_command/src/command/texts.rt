@@ -49,11 +49,12 @@ The forms of a command line:
       WORDS, one word of the command line, say what no order may have; up to 16 times. They are
       `PID CALL STATUS` for a call that is answered so, `PID CALL blocked` for one that waits,
       `PID stuck` for an instruction that can't be done, at an end `PID ended CODE`, `PID blocked`
-      or `PID created`, and at any moment `PID has KOID [RIGHTS]` for a handle to this object with
-      at least these rights, the sum of their numbers; with `*` for any PID, CALL or STATUS. Several
-      of the last four with `and` between each two are for all of that at once, at any moment. The
-      search stops at the first that it meets. The last line is `bad WORDS` then, below the schedule
-      up to it.
+      or `PID created`, and at any moment `PID ready`, `PID has KOID [RIGHTS]` for a handle to this
+      object with at least these rights, the sum of their numbers, `message has KOID [RIGHTS]` for
+      one in a queued message, or `KIND KOID` for an object that is there; with `*` for any PID,
+      CALL or STATUS. `not` before one of the last seven is for a moment at which that isn't so, and
+      `and` between each two of several for one at which all of that is so. The search stops at the
+      first that it meets. The last line is `bad WORDS` then, below the schedule up to it.
       `--part K/N`, as 2/4, takes part K of N of all orders: the orders whose first D turns have koids
       with a sum that leaves K - 1 when divided by N. An order that ends before D turns is part 1's.
       D is 0 to 1000, 6 without the option. All N parts with the same D together are the whole.

@@ -5,6 +5,8 @@ from pathlib import Path
 
 from meaning.asserting import Known, assertions_in
 from meaning.trouble import Trouble
+from worlds.deciding import Sight
+from worlds.wording import words_for
 
 TOP = Path(__file__).resolve().parent.parent
 EXAMPLES = TOP / "examples"
@@ -307,6 +309,8 @@ ALONE = """#? never deadlock, blocked for good, no end, goes round
 #? never 2 ended 2, 2 ended 1 and 3 ended 4
 #? always 2 ended 1
 #? at end: 3 ended 1|2 and 2 ended
+#? never any has job 1, a message has process 2
+#? at end: nobody has job 1 and 3 ended
 program raw asm
     close r2, r0
     const r3, 1
@@ -325,10 +329,11 @@ def try_alone(tools):
     told = [line.partition(":")[2].partition(": ")[2] for line in found.stdout.splitlines()[:-1]]
     wanted = [f"holds: {mode} {claim.strip()}" for mode, claims in [
         ("never", "deadlock, blocked for good, no end, goes round, any stuck, 3 any BAD_HANDLE, any blocked, 2 ended 2, "
-                  "2 ended 1 and 3 ended 4"), ("always", "2 ended 1"), ("at end:", "3 ended 1|2 and 2 ended")]
+                  "2 ended 1 and 3 ended 4"), ("always", "2 ended 1"), ("at end:", "3 ended 1|2 and 2 ended"), ("never", "any has job 1, a message has process 2"),
+        ("at end:", "nobody has job 1 and 3 ended")]
         for claim in claims.split(",")]
     # each has done none to three of its calls
-    last = "0 broken, 11 hold, 0 not decided; all orders (by zlab explore, 16 worlds)"
+    last = "0 broken, 14 hold, 0 not decided; all orders (by zlab explore, 16 worlds)"
     yield "alone", (found.returncode, told, found.stdout.splitlines()[-1]), (0, wanted, last)
     added = tools.run("explore", "--sum", given=found.stdout)
     yield "its sum", (added.returncode, added.stdout.splitlines()[-1].split(";")[0]), (0, last.split(";")[0])
@@ -341,10 +346,16 @@ def try_alone(tools):
             ("always 2 ended 6", [*END, five], 1, "the only order (by zlab explore; 2 worlds of the model)"),
             ("never 2 ended", [*END, five], 1, "the only order (by zlab explore; 2 worlds of the model)"),
             ("sometimes 2 ended", [*END, five], 0, "the only order (by zlab explore; 2 worlds of the model)"),
-            ("never 2 has job 1", [*END, five], 0, "the only order (by zlab explore; 2 worlds of the model)"),
-            ("never 2 has process 2", [*END, five], 0, "the only order (by zlab explore; 2 worlds of the model)"),
-            ("never nobody has job 1 and 2 blocked", [*END, five], 0,
+            ("never 2 has job 1", [*END, five], 0, "all orders (by zlab explore, 5 worlds)"),
+            ("never 2 has process 2", [*END, five], 0, "all orders (by zlab explore, 5 worlds)"),
+            ("never nobody has job 1 and 2 blocked", [*END, five], 0, "all orders (by zlab explore, 5 worlds)"),
+            ("never 2 ended other than 7 and a message has job 1", [*END, five], 0, "all orders (by zlab explore, 5 worlds)"),
+            ("never any ended other than 7 and 2 has job 1", [*END, five], 0,
              "the only order (by zlab explore; 2 worlds of the model; the lab ran each step)"),
+            ("at end: nobody has job 1 and 2 ended 7", [*END, five], 0, "all orders (by zlab explore, 5 worlds)"),
+            ("at end: nobody has job 1 and 2 ended 6", [*END, five], 1, "the only order (by zlab explore; 2 worlds of the model)"),
+            ("always nobody has job 1", [*END, five], 0, "all orders (by zlab explore, 5 worlds)"),
+            ("always nobody has job 1", [*END, "endless", five], 2, None),
             ("never 2 ended 8 and 2 ended 9", [*END, five], 0, "all orders (by zlab explore, 5 worlds)"),
             ("always 2 ended 7", ["end", "process 2 ended 8", "by", "2 1", five], 2, None),
             ("never deadlock", ["end", "process 2 blocked", "by", "2 1", five], 2, None),
@@ -385,16 +396,59 @@ def try_searches_cut(tools):
         yield f"a search: {written}", (found.returncode, found.stdout, found.stderr), (2, "", f"explore: {wanted}\n")
 
 
+# What some scenario knows of its names and of what its lines make.
+KNOWN = Known({"@root": 1, "@left": 2, "@bell": 4, "@client": 6, "@later": 9}, {"@serve"},
+              {1: "job", 2: "channel", 3: "channel", 4: "event", 6: "process"})
+# By which words zlab explore is asked whether an assertion of it is broken, or holds if it is about sometimes.
+WORDED = {
+    "never 6 chan_write PEER_CLOSED|OK": ["6 chan_write PEER_CLOSED", "6 chan_write OK"],
+    "sometimes any any any": ["* * *"], "never any wait_one blocked": ["* wait_one blocked"],
+    "never stuck": ["* stuck", "* * ended -1028"], "never 6 blocked": ["6 * blocked"],
+    "never 6 blocked and 5 stuck": ["6 blocked and 5 ended -1028"],
+    # one fact alone would be asked of ends
+    "never 6 ended 3": ["6 ended 3 and 6 ended 3"],
+    "sometimes any ended 3|-4": ["* ended 3 and * ended 3", "* ended -4 and * ended -4"],
+    # a process that no line makes may not be there yet
+    "never 6 ended": ["not 6 ready and not 6 blocked"], "never 9 ended": [], "never any ended": [], "never 9 ended other than 0": [],
+    "never 6 ended other than 0|1": ["not 6 ready and not 6 blocked and not 6 ended 0 and not 6 ended 1"],
+    "never @client ended and any has @bell": ["not 6 ready and not 6 blocked and * has 4"],
+    "never any ended other than 0 and 6 has @bell": [], "never 9 ended and nobody has @bell": [],
+    "never 9 ended 0 and nobody has @bell": ["9 ended 0 and not * has 4"],
+    "never nobody has @bell": ["not * has 4"], "sometimes nobody has event 4 with WAIT": ["not * has 4 16384"],
+    "never a message has @bell with SIGNAL|WAIT": ["message has 4 20480"], "never a message has object 9": ["message has 9"],
+    # a number that no line gives may be another object's in another order
+    "never any has event 9": ["* has 9 and event 9"], "never 6 has @later": ["6 has 9"],
+    "never 6 has process 9 with WAIT": ["6 has 9 16384 and process 9"],
+    "never nobody has event 9": ["not * has 9", "not event 9"],
+    "never a message has event 9 and 6 ended 0|1": ["message has 9 and event 9 and 6 ended 0",
+                                                    "message has 9 and event 9 and 6 ended 1"],
+    "never nobody has event 9 and 6 ended 0|1": ["not * has 9 and 6 ended 0", "not * has 9 and 6 ended 1",
+                                                 "not event 9 and 6 ended 0", "not event 9 and 6 ended 1"],
+    # what processes are in at ends the search writes
+    "at end: 6 ended 0 and 5 blocked": [], "always any ended other than 0": [],
+    "at end: any ended 1 and 6 has @bell with WAIT": ["not * ready and not 6 has 4 16384"],
+    "at end: nobody has @bell": ["not * ready and * has 4"], "always any has @left": ["not * ready and not * has 2"],
+    "always nobody has event 9 with WAIT": ["not * ready and * has 9 16384 and event 9"],
+    "at end: a message has event 9": ["not * ready and not message has 9", "not * ready and not event 9"],
+    "at end: 6 has @left and nobody has @bell": ["not * ready and not 6 has 2", "not * ready and * has 4"],
+    "never deadlock": [], "sometimes no end": [],
+}
+
+
+def try_wording(_):
+    """By which words zlab explore is asked of an assertion."""
+    for text, words in WORDED.items():
+        yield f"the words for {text}", words_for(Sight(assertions_in([("1", f"#? {text}")], KNOWN)[0])), words
+
+
 def try_refused_assertions(tools):
     """Wrong assertions are refused before anything is tried, and what no order has behind all orders."""
-    known = Known({"@root": 1, "@left": 2, "@bell": 4, "@client": 6, "@later": 9}, {"@serve"},
-                  {1: "job", 2: "channel", 3: "channel", 4: "event", 6: "process"})
     for line in (ASSERTIONS / "refused").read_text().splitlines():
         if line.startswith("# "):
             continue
         text, _, told = line.partition(" => ")
         try:
-            seen = str(assertions_in([("3", f"#? {text}")], known))
+            seen = str(assertions_in([("3", f"#? {text}")], KNOWN))
         except Trouble as trouble:
             seen = str(trouble)
         yield f"the assertion {text}", seen, f"line 3: {told}"
@@ -441,7 +495,7 @@ def try_folder_of_assertions(tools):
     told = [line for name in ("bell", "causes") for line in (ASSERTIONS / f"{name}.told").read_text().splitlines()]
     broken = [f"all/{line}" for line in told if ": broken: " in line]
     status, lines = found()
-    last = "0 as wanted, 0 not, 3 without an output; 17 assertions hold, 2 of them by the model, 10 broken, 1 not decided"
+    last = "0 as wanted, 0 not, 3 without an output; 17 assertions hold, 1 of them by the model, 10 broken, 1 not decided"
     yield "assertions of a folder", (status, [line for line in lines if ": broken: " in line], lines[-1]), (1, broken, last)
     yield "no files of them", sorted(path.name for path in tools.room.iterdir()), ["all"]
     status, lines = found("--worlds", "1")

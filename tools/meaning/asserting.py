@@ -43,10 +43,12 @@ class Item(NamedTuple):
 
 
 class Ended(NamedTuple):
-    """A process has ended, with one of these codes, or with another one; with no codes it is any."""
+    """A process has ended, with one of these codes, or with another one; with no codes it is any. `is_by_line` says whether a
+    line makes the process."""
     who: object
     codes: tuple
     is_other: bool
+    is_by_line: bool
 
     def __str__(self):
         codes = "|".join(map(str, self.codes))
@@ -333,7 +335,8 @@ class Reader:
         if len(rest) > 1 or is_other and not rest:
             self.fail("behind ended one word has the codes, with | between them and no space" if rest else
                       "a code is wanted")
-        return Ended(who, tuple(self.code(word) for word in rest[0].split("|")) if rest else (), is_other)
+        codes = tuple(self.code(word) for word in rest[0].split("|")) if rest else ()
+        return Ended(who, codes, is_other, self.known.kinds.get(who) == "process")
 
     def code(self, word):
         """The code of an end, as traces have it."""

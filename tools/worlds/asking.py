@@ -1,17 +1,16 @@
 """What `zlab explore`, the lab's own search, is asked of all orders, and its answer, which has to be that of the model."""
-from itertools import product
 from typing import NamedTuple
 
-from meaning.asserting import ANY, Ended, Has, In
-from meaning.numbers import STUCK
+from meaning.asserting import Ended, Facts, Has, In
 from meaning.scenario import joined
 from meaning.telling import counted
 from meaning.trouble import Trouble
 
-from .deciding import hold
+from .deciding import hold, names_object
 from .ends import states_name
 from .orders import run_of
 from .report import turns_text
+from .wording import words_for
 from .world import outgrows
 
 # How many things no order may have are asked of one search, and how many worlds it takes.
@@ -20,9 +19,6 @@ MOST_THINGS, MOST_WORLDS = 16, 1_000_000_000
 ALL, CUT, MEMORY, BAD = "all", "cut", "memory", "bad"
 # What an end is called at which there is no process.
 NOBODY = "without processes"
-# What it is asked of the facts that a process is stuck or blocked in some world: one that ends itself with the code of
-# those that are stuck counts as stuck.
-ASKED_OF = {"stuck": ("stuck", f"* ended {STUCK}"), "blocked": ("* blocked",)}
 
 
 class State(NamedTuple):
@@ -91,36 +87,6 @@ def state_in(words):
 # ---- assertions
 
 
-def words_for(sight):
-    """The words by which the search is asked whether some order has what the assertion is about, if it can be."""
-    facts = sight.in_worlds.facts if sight.in_worlds else ()
-    if sight.item:
-        item = sight.item
-        return [f"{star(item.who)} {star(item.call)} {answer}" for answer in item.answers or ("*",)]
-    if len(facts) == 1 and isinstance(facts[0], In):
-        return [f"{star(facts[0].who)} {words}" for words in ASKED_OF[facts[0].state]]
-    # one alone that a process has ended would be asked of ends
-    if len(facts) == 1 and isinstance(facts[0], Ended):
-        return []
-    return [" and ".join(words) for words in product(*map(fact_words, facts))] if facts else []
-
-
-def fact_words(fact):
-    """The words, one or other of which is so just where the fact is; none where there are no such."""
-    if isinstance(fact, Ended):
-        return [] if fact.is_other else [f"{star(fact.who)} ended {code}" for code in fact.codes]
-    if isinstance(fact, In):
-        return [f"{star(fact.who)} {f'ended {STUCK}' if fact.state == 'stuck' else fact.state}"]
-    # it is of processes that the search is asked, and of objects without their kinds
-    if not (fact.holder == ANY or isinstance(fact.holder, int)) or not fact.is_by_number:
-        return []
-    return [f"{star(fact.holder)} has {fact.koid}{f' {fact.rights}' if fact.rights else ''}"]
-
-
-def star(one):
-    return "*" if one == ANY else one
-
-
 def is_of_waits(sight):
     """Whether an assertion is about who waits for whom at an end, of which the search tells that nobody does, and no more."""
     return bool(sight.cause) and sight.cause.name in ("deadlock", "blocked for good")
@@ -128,14 +94,12 @@ def is_of_waits(sight):
 
 def is_settled(sight, answer):
     """Whether a whole search tells of an assertion, of which nothing is seen at the ends that it has, that no order has
-    it. Where it is about one moment of an order, the search was asked."""
-    if words_for(sight):
+    it. Where it is about one moment of an order, or about handles at an end, the search was asked."""
+    if words_for(sight) and not sight.at_ends:
         return True
     # an end at which somebody goes round is none to the search
     if answer.is_endless:
         return False
-    if sight.at_ends:
-        return not any(isinstance(fact, Has) for fact in sight.at_ends.facts)
     if sight.in_worlds:
         # who has ended stays so up to an end, and from each world one is reached
         return all(isinstance(fact, Ended) or isinstance(fact, In) and fact.state == "stuck" for fact in sight.in_worlds.facts)
@@ -146,21 +110,28 @@ def is_settled(sight, answer):
 AT_BEST = Answer({}, [], False, False, [ALL], [])
 
 
-def may_hold_alone(sight):
-    """Whether the search alone may tell that an assertion holds, with no schedule and no model, which alone knows of an object
-    whether it is in some order."""
-    facts = sight.in_worlds.facts if sight.in_worlds else ()
-    return not sight.is_sometimes and not any(isinstance(fact, Has) for fact in facts) and is_settled(sight, AT_BEST)
+def may_hold_alone(sight, first):
+    """Whether the search alone may tell that an assertion holds, with no schedule and no model, which alone knows whether an
+    object is in some order that isn't there from the first world on."""
+    objects = [thing for thing in sight.assertion.named_objects() if thing[0] != "process"]
+    return not sight.is_sometimes and all(names_object(thing, first) for thing in objects) and is_settled(sight, AT_BEST)
 
 
-def holds_alone(sight, answer):
-    """Whether a whole search tells it, which was asked where the assertion is about one moment of an order."""
-    pids = {pid for end in answer.at_ends for pid in end.processes}
-    if not is_settled(sight, answer) or any(koid not in pids for _, koid in sight.assertion.named_objects()):
+def holds_alone(sight, answer, first):
+    """Whether a whole search tells it, which was asked where the assertion is about one moment of an order, or about handles
+    at an end."""
+    pids = {*first.processes}.union(*(end.processes for end in answer.at_ends))
+    if not is_settled(sight, answer) or any(kind == "process" and koid not in pids for kind, koid in sight.assertion.named_objects()):
         return False
     if sight.at_ends:
-        return all(hold(sight.at_ends, end) for end in answer.at_ends)
-    return not (sight.in_worlds and any(hold(sight.in_worlds, end) for end in answer.at_ends))
+        return all(hold(without_handles(sight.at_ends), end) for end in answer.at_ends)
+    is_of_states = sight.in_worlds and sight.in_worlds == without_handles(sight.in_worlds)
+    return not (is_of_states and any(hold(sight.in_worlds, end) for end in answer.at_ends))
+
+
+def without_handles(facts):
+    """The facts without those about handles, of which a search tells at no end."""
+    return Facts(tuple(fact for fact in facts.facts if not isinstance(fact, Has)))
 
 
 # ---- the search
@@ -191,11 +162,12 @@ def ask(exploring, found, most, words=()):
 
 def ask_alone(exploring, sights, most):
     """Its answer, where that alone tells that all assertions hold; else nothing."""
-    if not all(map(may_hold_alone, sights)) or outgrows(exploring.first, {}):
+    first = exploring.first
+    if not all(may_hold_alone(sight, first) for sight in sights) or outgrows(first, {}):
         return None
     words = [words for sight in sights for words in words_for(sight)]
     *_, answer = answers(exploring, most, words, "zlab explore goes through all orders")
-    return answer if answer.is_whole and all(holds_alone(sight, answer) for sight in sights) else None
+    return answer if answer.is_whole and all(holds_alone(sight, answer, first) for sight in sights) else None
 
 
 def parting(exploring, difference):

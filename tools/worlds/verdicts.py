@@ -6,7 +6,7 @@ from meaning.scenario import joined
 from meaning.telling import counted
 from meaning.trouble import Trouble
 
-from .asking import BAD, MEMORY, ask, ask_alone, is_of_waits, is_settled, parting, runs_beyond, words_for
+from .asking import BAD, MEMORY, ask, ask_alone, is_of_waits, is_settled, parting, runs_beyond
 from .bad import Shrinking
 from .deciding import BROKEN, HOLDS, UNDECIDED, Asserted
 from .ends import CAUSES, end_name, end_reasons
@@ -15,6 +15,7 @@ from .orders import Place, run_of
 from .paths import lines_in, shortest_orders
 from .report import CONFIRMED, INDENT, NOT_YET, room_text, turns_text
 from .turns import choices, played
+from .wording import words_for
 
 # What is told below an assertion of which nothing, or something else, was seen, and on what that rests, if it isn't the
 # lab's own search.

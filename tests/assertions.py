@@ -1,12 +1,17 @@
 """What tests/try-tools tries of assertions: each try is what it is about, what was seen, and what was wanted."""
+import random
 import shutil
 import subprocess
 from pathlib import Path
 
-from meaning.asserting import Known, assertions_in
+from meaning.asserting import Known, assertions_in, kinds_of
+from meaning.numbers import DEFAULT_RIGHTS, KINDS, RIGHTS
+from meaning.scenario import read_scenario
 from meaning.trouble import Trouble
+from moments import is_moment, worlds_from
 from worlds.deciding import Sight
-from worlds.wording import words_for
+from worlds.world import first_world
+from worlds.wording import handles_in, words_for
 
 TOP = Path(__file__).resolve().parent.parent
 EXAMPLES = TOP / "examples"
@@ -439,6 +444,58 @@ def try_wording(_):
     """By which words zlab explore is asked of an assertion."""
     for text, words in WORDED.items():
         yield f"the words for {text}", words_for(Sight(assertions_in([("1", f"#? {text}")], KNOWN)[0])), words
+
+
+# Scenarios in whose worlds words are compared with what they stand for; so many assertions of each.
+COMPARED = [*(ASSERTIONS / f"{name}.zls" for name in ("forms", "held", "made", "sent", "waits")),
+            *(EXAMPLES / f"{name}.zls" for name in ("child-in-job", "child-in-time", "event-sent", "in-flight",
+                                                    "locks-crosswise", "never-started"))]
+ASSERTED = 300
+
+
+def some_fact(worlds, chance):
+    """A fact about what some of the worlds have, or about what none has."""
+    world = chance.choice(worlds)
+    who = chance.choice([*world.processes, *world.processes, "any"])
+    if chance.random() < 0.4:
+        codes = "|".join(chance.choices(["0", "7", "24", "-1028", "-1024", "42"], k=chance.choice([1, 1, 2])))
+        return f"{who} " + chance.choice(["blocked", "stuck", "ended", f"ended {codes}", f"ended {codes}", f"ended other than {codes}"])
+    koid = chance.choice([*world.objects, world.next_koid])
+    kind = world.objects[koid].kind if koid in world.objects else chance.choice([*KINDS])
+    rights = [name for name, bit in RIGHTS.items() if DEFAULT_RIGHTS[kind] & bit]
+    asked = f" with {'|'.join(chance.sample(rights, chance.choice([1, 1, 2])))}" if chance.random() < 0.5 else ""
+    return f"{chance.choice([who, who, 'nobody', 'a message'])} has {chance.choice([kind, kind, 'object'])} {koid}{asked}"
+
+
+def words_apart(scenario, worlds, chance):
+    """Assertions of which the words are so in other worlds than what they stand for, and how many were compared."""
+    known, apart, compared = Known({}, set(), kinds_of(scenario)), [], 0
+    for _ in range(ASSERTED):
+        text = chance.choice(["never ", "never ", "at end: "]) + " and ".join(
+            some_fact(worlds, chance) for _ in range(chance.choice([1, 1, 2, 3])))
+        try:
+            sight = Sight(assertions_in([("1", f"#? {text}")], known)[0])
+        except Trouble:
+            # another line may have made an object of this number, without this right
+            continue
+        if sight.at_ends:
+            sight.at_ends = sight.at_ends._replace(facts=tuple(handles_in(sight.at_ends)))
+        words = words_for(sight)
+        # those that are about items aren't of worlds
+        if words and not any(one.split(" ")[1:] in (["stuck"], ["*", "blocked"], ["*", "ended", "-1028"]) for one in words):
+            compared += 1
+            if any(any(is_moment(one, world) for one in words) != sight.is_in_trace([], world) for world in worlds):
+                apart.append((text, words))
+    return apart, compared
+
+
+def try_words_in_worlds(_):
+    """The words by which zlab explore is asked are so in just those worlds of the model in which that is what they stand for."""
+    for path in COMPARED:
+        scenario = read_scenario(path.read_text())
+        worlds = worlds_from(first_world(scenario, limit=1000), 1000)
+        apart, compared = words_apart(scenario, worlds, random.Random(path.name))
+        yield f"words in the worlds of {path.name}", (apart, compared > ASSERTED / 4), ([], True)
 
 
 def try_refused_assertions(tools):

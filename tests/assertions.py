@@ -334,7 +334,8 @@ def try_alone(tools):
     told = [line.partition(":")[2].partition(": ")[2] for line in found.stdout.splitlines()[:-1]]
     wanted = [f"holds: {mode} {claim.strip()}" for mode, claims in [
         ("never", "deadlock, blocked for good, no end, goes round, any stuck, 3 any BAD_HANDLE, any blocked, 2 ended 2, "
-                  "2 ended 1 and 3 ended 4"), ("always", "2 ended 1"), ("at end:", "3 ended 1|2 and 2 ended"), ("never", "any has job 1, a message has process 2"),
+                  "2 ended 1 and 3 ended 4"), ("always", "2 ended 1"), ("at end:", "3 ended 1|2 and 2 ended"),
+        ("never", "any has job 1, a message has process 2"),
         ("at end:", "nobody has job 1 and 3 ended")]
         for claim in claims.split(",")]
     # each has done none to three of its calls
@@ -358,7 +359,8 @@ def try_alone(tools):
             ("never any ended other than 7 and 2 has job 1", [*END, five], 0,
              "the only order (by zlab explore; 2 worlds of the model; the lab ran each step)"),
             ("at end: nobody has job 1 and 2 ended 7", [*END, five], 0, "all orders (by zlab explore, 5 worlds)"),
-            ("at end: nobody has job 1 and 2 ended 6", [*END, five], 1, "the only order (by zlab explore; 2 worlds of the model)"),
+            ("at end: nobody has job 1 and 2 ended 6", [*END, five], 1,
+             "the only order (by zlab explore; 2 worlds of the model)"),
             ("always nobody has job 1", [*END, five], 0, "all orders (by zlab explore, 5 worlds)"),
             ("always nobody has job 1", [*END, "endless", five], 2, None),
             ("never 2 ended 8 and 2 ended 9", [*END, five], 0, "all orders (by zlab explore, 5 worlds)"),
@@ -414,7 +416,8 @@ WORDED = {
     "never 6 ended 3": ["6 ended 3 and 6 ended 3"],
     "sometimes any ended 3|-4": ["* ended 3 and * ended 3", "* ended -4 and * ended -4"],
     # a process that no line makes may not be there yet
-    "never 6 ended": ["not 6 ready and not 6 blocked"], "never 9 ended": [], "never any ended": [], "never 9 ended other than 0": [],
+    "never 6 ended": ["not 6 ready and not 6 blocked"], "never 9 ended": [], "never any ended": [],
+    "never 9 ended other than 0": [],
     "never 6 ended other than 0|1": ["not 6 ready and not 6 blocked and not 6 ended 0 and not 6 ended 1"],
     "never @client ended and any has @bell": ["not 6 ready and not 6 blocked and * has 4"],
     "never any ended other than 0 and 6 has @bell": [], "never 9 ended and nobody has @bell": [],
@@ -459,7 +462,8 @@ def some_fact(worlds, chance):
     who = chance.choice([*world.processes, *world.processes, "any"])
     if chance.random() < 0.4:
         codes = "|".join(chance.choices(["0", "7", "24", "-1028", "-1024", "42"], k=chance.choice([1, 1, 2])))
-        return f"{who} " + chance.choice(["blocked", "stuck", "ended", f"ended {codes}", f"ended {codes}", f"ended other than {codes}"])
+        ended = ["ended", f"ended {codes}", f"ended {codes}", f"ended other than {codes}"]
+        return f"{who} {chance.choice(['blocked', 'stuck', *ended])}"
     koid = chance.choice([*world.objects, world.next_koid])
     kind = world.objects[koid].kind if koid in world.objects else chance.choice([*KINDS])
     rights = [name for name, bit in RIGHTS.items() if DEFAULT_RIGHTS[kind] & bit]
@@ -490,7 +494,7 @@ def words_apart(scenario, worlds, chance):
 
 
 def try_words_in_worlds(_):
-    """The words by which zlab explore is asked are so in just those worlds of the model in which that is what they stand for."""
+    """The words by which zlab explore is asked are so in just those worlds of the model in which what they stand for is."""
     for path in COMPARED:
         scenario = read_scenario(path.read_text())
         worlds = worlds_from(first_world(scenario, limit=1000), 1000)

@@ -121,7 +121,8 @@ def holds_alone(sight, answer, first):
     """Whether a whole search tells it, which was asked where the assertion is about one moment of an order, or about handles
     at an end."""
     pids = {*first.processes}.union(*(end.processes for end in answer.at_ends))
-    if not is_settled(sight, answer) or any(kind == "process" and koid not in pids for kind, koid in sight.assertion.named_objects()):
+    named = {koid for kind, koid in sight.assertion.named_objects() if kind == "process"}
+    if not is_settled(sight, answer) or not named <= pids:
         return False
     if sight.at_ends:
         return all(hold(without_handles(sight.at_ends), end) for end in answer.at_ends)

@@ -3,6 +3,7 @@ use Rattle.zl_abs.proofs.Common.{AbsVal, Bool, Cause, Err, Field, List, None, Ok
 use Rattle.zl_abs.proofs.Common.{are_words, arith, bound_at, cond, drop, drop-cons, drop_all, examined, examined_all, false, field_of, get_or}
 use Rattle.zl_abs.proofs.Common.{get_or_default_zero, is_result, is_some, is_word, left_by, length, length-drop, map, not, operand_by, operands_at, refl}
 use Rattle.zl_abs.proofs.Common.{slice_index, sym, take, take_all, those, true, ℕ, ◌&&◌, ◌++◌, ◌+◌, ◌-◌, ◌<◌, ◌||◌, ◌∙◌, ◌∷◌, ◌≡◌, ◌≤◌}
+use Rattle.std.specs.List.{find, list_any}
 use Rattle.zl_code.specs.declared.layout.Field.{Field as FieldInCode}
 use Rattle.zl_abs.proofs.StateSteps.{Stands, drop_here}
 
@@ -121,3 +122,12 @@ distinct_more xs i x h p e = distinct_step xs i x h p ∙ rw e refl
 -- what a slice from a place on holds
 pub rest_of : (xs : List (ℕ × AbsVal)) (i : ℕ) → take (length xs - i) (drop i xs) ≡ drop i xs
 rest_of xs i = take_all _ _ (omega (arith, length-drop i xs))
+
+-- one is found just where one passes
+pub found_any : {X : Type 0} (test : X → Bool) (xs : List X) → is_some (find test xs) ≡ list_any test xs
+found_any test [] = refl
+found_any {X} test (x ∷ xs) = by (test x) (found_any test xs)
+  where
+    by : (b : Bool) → is_some (find test xs) ≡ list_any test xs → is_some (cond b (Some x) (find test xs)) ≡ (b || list_any test xs)
+    by true later = refl
+    by false later = later

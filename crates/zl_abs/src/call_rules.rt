@@ -14,7 +14,7 @@ ghost use Rattle.zl_abs.specs.Rule.{and_then, passes};
 
 use crate::call_results::{MOST_WRITTEN, Results, values_of, with_received, written};
 use crate::call_tests::{array_fault, finish};
-use crate::cause::Cause;
+use crate::cause::RuleFault;
 use crate::change::Change;
 use crate::operand::Operand;
 use crate::round_up::Rounding;
@@ -26,7 +26,7 @@ use zl_code::{CallInstr, CallName, Columns, Ending, Field, HandleList, Image, Re
 /// Examines the register by its field, and takes it where the call consumes its handle. Why it
 /// can't be, if it can't.
 #[tactic(auto, unfolding(crate::specs::CallRules::examined_all), using(crate::proofs::CallSteps::one_examined))]
-fn examine(after: &mut AbsState, field: Field, register: Register) -> Option<Cause>
+fn examine(after: &mut AbsState, field: Field, register: Register) -> Option<RuleFault>
     ensures { left_by after.new result
         ≡ examined_all after.old (operand_by (field_of field) register) }
 {
@@ -40,7 +40,11 @@ fn examine(after: &mut AbsState, field: Field, register: Register) -> Option<Cau
 
 /// Examines the registers by their fields, from left to right.
 #[tactic(auto, using(crate::proofs::CallSteps::fields_stop, crate::proofs::CallSteps::fields_more, crate::proofs::CallSteps::fields_end))]
-fn examine_fields(after: &mut AbsState, fields: &[Field], registers: &[Register]) -> Option<Cause>
+fn examine_fields(
+    after: &mut AbsState,
+    fields: &[Field],
+    registers: &[Register],
+) -> Option<RuleFault>
     requires { length fields.now ≤ length registers.now }
     ensures { left_by after.new result
         ≡ examined_all after.old (operands_at (map field_of fields.now) 0 registers.now) }
@@ -56,7 +60,7 @@ fn examine_fields(after: &mut AbsState, fields: &[Field], registers: &[Register]
 
 /// Examines the registers of a list by their one field.
 #[tactic(auto, using(crate::proofs::ListSteps::listed_stop))]
-fn examine_list(after: &mut AbsState, field: Field, handles: HandleList) -> Option<Cause>
+fn examine_list(after: &mut AbsState, field: Field, handles: HandleList) -> Option<RuleFault>
     ensures { left_by after.new result
         ≡ examined_all after.old (operands_listed (Some (field_of field)) (used handles.places)) }
 {
@@ -74,7 +78,7 @@ fn examine_list(after: &mut AbsState, field: Field, handles: HandleList) -> Opti
 
 /// Examines all registers of a call by its row.
 #[tactic(auto, using(crate::proofs::CallSteps::stops_there, crate::proofs::CallSteps::goes_on))]
-fn examine_all(after: &mut AbsState, columns: &Columns, instr: &CallInstr) -> Option<Cause>
+fn examine_all(after: &mut AbsState, columns: &Columns, instr: &CallInstr) -> Option<RuleFault>
     requires { length columns.now.fields.now ≤ most_registers }
     ensures { left_by after.new result ≡ examined_all after.old
         (operands_at (map field_of columns.now.fields.now) 0 instr.now.registers
@@ -103,7 +107,7 @@ fn finish_with(
     columns: &Columns,
     instr: &CallInstr,
     values: &[AbsVal],
-) -> Option<Cause>
+) -> Option<RuleFault>
     requires few { length columns.now.fields.now ≤ most_registers }
     requires room { IsTrue (names_registers columns.now.ending (call_reading instr.now)) }
     requires values { length values.now ≡ most_registers }
@@ -124,12 +128,12 @@ fn finish_with(
 
 /// The edges that are followed from the call of this name that left this state, if nothing is at
 /// fault.
-fn ended(after: &AbsState, name: CallName, fault: Option<Cause>) -> Result<Changes, Cause>
+fn ended(after: &AbsState, name: CallName, fault: Option<RuleFault>) -> Result<Changes, RuleFault>
     ensures { ways_told after.now result ≡ and_then (left_by after.now fault)
         (λ t. Ok (if goes_on name then passes t else stops)) }
 {
-    if let Some(cause) = fault {
-        return Err(cause);
+    if let Some(fault) = fault {
+        return Err(fault);
     }
     match name {
         CallName::ProcessExit => Ok(Changes::stopping(after)),
@@ -144,18 +148,18 @@ pub(crate) fn call_rule(
     instr: CallInstr,
     state: &AbsState,
     after: &mut AbsState,
-) -> Result<Changes, Cause>
+) -> Result<Changes, RuleFault>
     requires in_range { IsTrue (is_call_in_range instr) }
     requires same { after.old ≡ state.now }
     ensures { ways_told after.new result
         ≡ call_rule (bounds_in bounds.entry) image.now instr state.now }
 {
     let columns = instr.name.row().columns;
-    if let Some(cause) = examine_all(after, columns, &instr) {
-        return Err(cause);
+    if let Some(fault) = examine_all(after, columns, &instr) {
+        return Err(fault);
     }
     if let Some(cause) = array_fault(image, columns.ending, &instr) {
-        return Err(cause);
+        return Err(cause.alone());
     }
     let values = values_of(bounds, state, &instr);
     let fault = finish_with(image, state, after, columns, &instr, &values);

@@ -4,11 +4,12 @@ ghost use Rattle.std.specs.Prelude.{◌≡◌, ◌≤◌, ◌&&◌, ◌||◌, []
 ghost use Rattle.zl_code.specs.Asked.{those};
 ghost use Rattle.zl_code.specs.Instructions.{field_of};
 ghost use Rattle.zl_code.specs.Limits.{most_registers};
+ghost use Rattle.std.specs.Option.{is_none};
 ghost use Rattle.zl_abs.specs.CallRules.{answers, are_distinct, are_words, array_fault, array_in, cannot_keep, cannot_send, count_fits, finished, has_one, is_declared, is_result, is_word, range_fits, range_in, uses};
 ghost use Rattle.zl_abs.specs.Changes.{left_by};
 ghost use Rattle.zl_abs.specs.States.{bound_at};
 
-use crate::cause::Cause;
+use crate::cause::{Cause, RuleFault, Wanted};
 use crate::state::AbsState;
 use crate::value::{AbsVal, is_register};
 use bitflags::Flags;
@@ -23,18 +24,22 @@ fn is_read(state: &AbsState, field: &Field, register: Register) -> bool
     !matches!(field, Field::Reads) || state.get(register).bound().is_some()
 }
 
-/// Whether the registers hold words that the call reads.
+/// The first register that holds no word where the call reads one.
 #[tactic(auto, using(crate::proofs::CallSteps::words_stop, crate::proofs::CallSteps::words_more, crate::proofs::CallSteps::words_end))]
-fn are_words(state: &AbsState, fields: &[Field], registers: &[Register]) -> bool
+fn first_without_word(
+    state: &AbsState,
+    fields: &[Field],
+    registers: &[Register],
+) -> Option<Register>
     requires { length fields.now ≤ length registers.now }
-    ensures { result ≡ are_words state.now (those is_word (map field_of fields.now) 0 registers.now) }
+    ensures { is_none result ≡ are_words state.now (those is_word (map field_of fields.now) 0 registers.now) }
 {
     for (place, field) in fields.iter().enumerate() {
         if !is_read(state, field, registers[place]) {
-            return false;
+            return Some(registers[place]);
         }
     }
-    true
+    None
 }
 
 /// Whether the address and the length in the third and the fourth register lie in the memory,
@@ -157,27 +162,31 @@ fn are_distinct(results: &[(Register, AbsVal)]) -> bool
     true
 }
 
-/// Whether one of the registers has a handle, or may have one.
-fn has_one(state: &AbsState, results: &[(Register, AbsVal)]) -> bool
-    ensures { result ≡ has_one state.now results.now }
+/// The first of the registers that has a handle, or may have one.
+fn first_handle(state: &AbsState, results: &[(Register, AbsVal)]) -> Option<Register>
+    ensures { is_some result ≡ has_one state.now results.now }
 {
-    results
+    let found = results
         .iter()
-        .any(|(register, _)| state.get(*register).is_has())
+        .find(|(register, _)| state.get(*register).is_has());
+    match found {
+        Some((register, _)) => Some(*register),
+        None => None,
+    }
 }
 
 /// Writes the destinations. Why they can't be written, if they can't.
-fn answer(after: &mut AbsState, results: &[(Register, AbsVal)]) -> Option<Cause>
+fn answer(after: &mut AbsState, results: &[(Register, AbsVal)]) -> Option<RuleFault>
     ensures { left_by after.new result ≡ answers after.old results.now }
 {
     if !are_distinct(results) {
-        Some(Cause::IllegalOp)
-    } else if has_one(after, results) {
-        Some(Cause::Leak)
-    } else {
-        after.write_all(results);
-        None
+        return Some(Cause::IllegalOp.alone());
     }
+    if let Some(register) = first_handle(after, results) {
+        return Some(Cause::Leak.of(register, Wanted::Room));
+    }
+    after.write_all(results);
+    None
 }
 
 /// Ends a call whose operands and slot array passed, and left `after` of the state. Why it can't be
@@ -189,19 +198,20 @@ pub(crate) fn finish(
     columns: &Columns,
     instr: &CallInstr,
     results: &[(Register, AbsVal)],
-) -> Option<Cause>
+) -> Option<RuleFault>
     requires { length columns.now.fields.now ≤ most_registers }
     ensures { left_by after.new result ≡ finished image.now state.now after.old
         (uses [] (those is_word (map field_of columns.now.fields.now) 0 instr.now.registers)
         (range_in columns.now.ending instr.now.registers) (array_in columns.now.ending instr.now)
         columns.now.condition results.now) }
 {
-    if !are_words(state, columns.fields, &instr.registers) {
-        Some(Cause::NotWord)
-    } else if !is_all_there(image, state, columns.ending, instr) {
-        Some(Cause::MemoryRange)
+    if let Some(register) = first_without_word(state, columns.fields, &instr.registers) {
+        return Some(Cause::NotWord.of(register, Wanted::Number));
+    }
+    if !is_all_there(image, state, columns.ending, instr) {
+        Some(Cause::MemoryRange.alone())
     } else if !is_declared(image, columns.condition) {
-        Some(Cause::UndeclaredNeed)
+        Some(Cause::UndeclaredNeed.alone())
     } else {
         answer(after, results)
     }

@@ -5,7 +5,7 @@ ghost use Rattle.zl_rights.specs.Numbers.{within, KNOWN_RIGHTS};
 ghost use Rattle.zl_abs.specs.LocalRules.{becomes, below_ways, equal_ways, has_ways, kind_numbered, kind_ways, known_kind, known_other, known_rights, known_there, known_zero, unless, zero_ways};
 ghost use Rattle.zl_abs.specs.Changes.{changed, changed_if, is_learned, ways_by, ways_told};
 
-use crate::cause::Cause;
+use crate::cause::{Cause, RuleFault, Wanted};
 use crate::change::Change;
 use crate::state::AbsState;
 use crate::value::{AbsVal, is_kind, is_kind_below};
@@ -170,11 +170,11 @@ pub(crate) fn jump_equal(
     register: Register,
     number: u32,
     value: AbsVal,
-) -> Result<Changes, Cause>
+) -> Result<Changes, RuleFault>
     ensures { ways_told state.now result ≡ equal_ways state.now register number value }
 {
     match value {
-        AbsVal::Has { .. } => Err(Cause::NotWord),
+        AbsVal::Has { .. } => Err(Cause::NotWord.of(register, Wanted::Number)),
         AbsVal::Word(most) => {
             let jumped = if most < u64::from(number) {
                 None
@@ -233,7 +233,7 @@ pub(crate) fn jump_zero(
     state: &AbsState,
     register: Register,
     value: AbsVal,
-) -> Result<Changes, Cause>
+) -> Result<Changes, RuleFault>
     ensures { ways_told state.now result ≡ zero_ways state.now register value }
 {
     match value {
@@ -250,7 +250,7 @@ pub(crate) fn jump_below(
     state: &AbsState,
     register: Register,
     number: u32,
-) -> Result<Changes, Cause>
+) -> Result<Changes, RuleFault>
     ensures { ways_told state.now result ≡ below_ways state.now register number }
 {
     let most = state.word(register)?;
@@ -271,11 +271,16 @@ pub(crate) fn jump_below(
 }
 
 /// Jumps where all the bits are in the register, which has this value.
-pub(crate) fn jump_has(state: &AbsState, bits: u32, value: AbsVal) -> Result<Changes, Cause>
+pub(crate) fn jump_has(
+    state: &AbsState,
+    register: Register,
+    bits: u32,
+    value: AbsVal,
+) -> Result<Changes, RuleFault>
     ensures { ways_told state.now result ≡ has_ways state.now bits value }
 {
     match value {
-        AbsVal::Has { .. } => Err(Cause::NotWord),
+        AbsVal::Has { .. } => Err(Cause::NotWord.of(register, Wanted::Number)),
         AbsVal::RightsOf(tagged) => {
             let jumped = if bits == 0 {
                 Some(Change::Same)
@@ -295,11 +300,14 @@ pub(crate) fn jump_has(state: &AbsState, bits: u32, value: AbsVal) -> Result<Cha
 }
 
 /// The same jump where the test fails.
-pub(crate) fn turned(state: &AbsState, changes: Result<Changes, Cause>) -> Result<Changes, Cause>
+pub(crate) fn turned(
+    state: &AbsState,
+    changes: Result<Changes, RuleFault>,
+) -> Result<Changes, RuleFault>
     ensures { ways_told state.now result ≡ unless (ways_told state.now changes) }
 {
     match changes {
         Ok(changes) => Ok(changes.turned(state)),
-        Err(cause) => Err(cause),
+        Err(fault) => Err(fault),
     }
 }

@@ -27,7 +27,7 @@ mod value;
 mod ways;
 
 pub use bounds::Bounds;
-pub use cause::{Cause, Conflict};
+pub use cause::{Blamed, Cause, Conflict, RuleFault, Wanted};
 pub use change::Change;
 pub use rules::{Edge, Successors, jump_target, step_by, transfer, transfer_by};
 pub use state::{AbsState, below, join};

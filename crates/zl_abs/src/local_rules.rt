@@ -6,14 +6,14 @@ ghost use Rattle.zl_abs.specs.Found.{bounds_in};
 ghost use Rattle.zl_abs.specs.LocalRules.{adds, adds_number, computes, copies, in_memory, loads, local_rule, may_move, meets, mixes, shifted, shifts_down, shifts_up, slot_fault, stores, swaps_in, takes, goes_round_again, ends_turn};
 ghost use Rattle.zl_abs.specs.Changes.{ways_by, ways_told};
 
-use crate::cause::Cause;
+use crate::cause::{Cause, RuleFault, Wanted};
 use crate::change::Change;
 use crate::jumps::{jump_below, jump_equal, jump_has, jump_zero, turned};
 use crate::round_up::Rounding;
 use crate::state::AbsState;
 use crate::value::{AbsVal, is_kind_below, is_register};
 use crate::ways::Changes;
-use zl_code::{Image, LocalInstr, Mark, Register, SlotArray};
+use zl_code::{Image, Kinds, LocalInstr, Mark, Register, SlotArray};
 
 /// The register becomes a word up to the next bound from the number on.
 fn compute(
@@ -21,7 +21,7 @@ fn compute(
     state: &AbsState,
     register: Register,
     number: u64,
-) -> Result<Changes, Cause>
+) -> Result<Changes, RuleFault>
     ensures { ways_told state.now result ≡ computes (bounds_in bounds.entry) state.now register number }
 {
     Changes::writing(state, register, AbsVal::Word(bounds.round_up(number)))
@@ -33,7 +33,7 @@ fn mix(
     register: Register,
     left: Register,
     right: Register,
-) -> Result<Changes, Cause>
+) -> Result<Changes, RuleFault>
     ensures { ways_told state.now result ≡ mixes state.now register left right }
 {
     state.word(left)?;
@@ -58,7 +58,7 @@ fn load(
     register: Register,
     base: Register,
     offset: u32,
-) -> Result<Changes, Cause>
+) -> Result<Changes, RuleFault>
     requires { bytes ≤ 8 }
     ensures { ways_told state.now result ≡ loads image.now state.now bytes bound register base offset }
 {
@@ -66,7 +66,7 @@ fn load(
     if is_in_memory(image, most, offset, bytes) {
         Changes::writing(state, register, AbsVal::Word(bound))
     } else {
-        Err(Cause::MemoryRange)
+        Err(Cause::MemoryRange.alone())
     }
 }
 
@@ -78,7 +78,7 @@ fn store(
     base: Register,
     source: Register,
     offset: u32,
-) -> Result<Changes, Cause>
+) -> Result<Changes, RuleFault>
     requires { bytes ≤ 8 }
     ensures { ways_told state.now result ≡ stores image.now state.now bytes base source offset }
 {
@@ -87,12 +87,12 @@ fn store(
     if is_in_memory(image, most, offset, bytes) {
         Ok(Changes::passing(state, Change::Same))
     } else {
-        Err(Cause::MemoryRange)
+        Err(Cause::MemoryRange.alone())
     }
 }
 
 /// The register becomes a copy of a word or of a tag.
-fn copy(state: &AbsState, register: Register, source: Register) -> Result<Changes, Cause>
+fn copy(state: &AbsState, register: Register, source: Register) -> Result<Changes, RuleFault>
     ensures { ways_told state.now result ≡ copies state.now register source }
 {
     state.word(source)?;
@@ -111,16 +111,16 @@ fn may_move(value: &AbsVal) -> bool
 }
 
 /// What was in the source goes to the register.
-fn take(state: &AbsState, register: Register, source: Register) -> Result<Changes, Cause>
+fn take(state: &AbsState, register: Register, source: Register) -> Result<Changes, RuleFault>
     ensures { ways_told state.now result ≡ takes state.now register source }
 {
     let value = state.get(source);
     if is_register(register, source) {
-        Err(Cause::IllegalOp)
+        Err(Cause::IllegalOp.alone())
     } else if !may_move(&value) {
-        Err(Cause::NotLive)
+        Err(Cause::NotLive.of(source, Wanted::ANY_HANDLE))
     } else if state.get(register).is_has() {
-        Err(Cause::Leak)
+        Err(Cause::Leak.of(register, Wanted::Room))
     } else {
         Ok(Changes::passing(state, Change::Moved(register, source, value)))
     }
@@ -151,6 +151,18 @@ fn slot_fault(array: &SlotArray, value: AbsVal) -> Option<Cause>
     }
 }
 
+/// What is asked of a register that is exchanged with a place of the slot array.
+fn wanted_in(array: &SlotArray) -> Wanted {
+    Wanted::Handle {
+        kinds: match array.kind {
+            Some(kind) => Kinds::Only(kind),
+            None => Kinds::Any,
+        },
+        rights: array.rights,
+        may_be_zero: true,
+    }
+}
+
 /// The register and a place of the slot array are exchanged.
 fn swap(
     image: &Image,
@@ -158,18 +170,18 @@ fn swap(
     register: Register,
     place: Register,
     array: u32,
-) -> Result<Changes, Cause>
+) -> Result<Changes, RuleFault>
     ensures { ways_told state.now result ≡ swaps_in state.now register place (slice_get image.now.slots array) }
 {
     let Some(array) = image.slots().get(array as usize) else {
-        return Err(Cause::IllegalOp);
+        return Err(Cause::IllegalOp.alone());
     };
     let most = state.word(place)?;
     if most >= u64::from(array.length) {
-        return Err(Cause::MemoryRange);
+        return Err(Cause::MemoryRange.alone());
     }
     match slot_fault(array, state.get(register)) {
-        Some(cause) => Err(cause),
+        Some(cause) => Err(cause.of(register, wanted_in(array))),
         None => {
             let value = AbsVal::Has {
                 maybe: true,
@@ -202,7 +214,7 @@ fn add(
     register: Register,
     left: Register,
     right: Register,
-) -> Result<Changes, Cause>
+) -> Result<Changes, RuleFault>
     ensures { ways_told state.now result ≡ adds (bounds_in bounds.entry) state.now register left right }
 {
     let left = state.word(left)?;
@@ -217,7 +229,7 @@ fn add_number(
     register: Register,
     left: Register,
     number: u32,
-) -> Result<Changes, Cause>
+) -> Result<Changes, RuleFault>
     ensures { ways_told state.now result ≡ adds_number (bounds_in bounds.entry) state.now register left number }
 {
     let left = state.word(left)?;
@@ -236,7 +248,7 @@ fn and(
     register: Register,
     left: Register,
     right: Register,
-) -> Result<Changes, Cause>
+) -> Result<Changes, RuleFault>
     ensures { ways_told state.now result ≡ meets (bounds_in bounds.entry) state.now register left right }
 {
     let left = state.word(left)?;
@@ -245,7 +257,7 @@ fn and(
 }
 
 /// The register becomes the bits of a word moved up.
-fn shift_left(state: &AbsState, register: Register, source: Register) -> Result<Changes, Cause>
+fn shift_left(state: &AbsState, register: Register, source: Register) -> Result<Changes, RuleFault>
     ensures { ways_told state.now result ≡ shifts_up state.now register source }
 {
     state.word(source)?;
@@ -259,7 +271,7 @@ fn shift_right(
     register: Register,
     source: Register,
     places: u32,
-) -> Result<Changes, Cause>
+) -> Result<Changes, RuleFault>
     ensures { ways_told state.now result ≡ shifts_down (bounds_in bounds.entry) state.now register source places }
 {
     let most = state.word(source)?;
@@ -293,7 +305,7 @@ pub(crate) fn local_rule(
     image: &Image,
     local: LocalInstr,
     state: &AbsState,
-) -> Result<Changes, Cause>
+) -> Result<Changes, RuleFault>
     ensures { ways_told state.now result ≡ local_rule (bounds_in bounds.entry) image.now local state.now }
 {
     match local {
@@ -402,9 +414,11 @@ pub(crate) fn local_rule(
             number,
             ..
         } => turned(state, jump_below(state, register, number)),
-        LocalInstr::JumpHas { register, bits, .. } => jump_has(state, bits, state.get(register)),
+        LocalInstr::JumpHas { register, bits, .. } => {
+            jump_has(state, register, bits, state.get(register))
+        }
         LocalInstr::JumpHasNot { register, bits, .. } => {
-            turned(state, jump_has(state, bits, state.get(register)))
+            turned(state, jump_has(state, register, bits, state.get(register)))
         }
         LocalInstr::Rep { .. } => Ok(Changes::passing(state, Change::Same)),
         LocalInstr::EndRep { rep } => Ok(end_turn(image, state, rep)),

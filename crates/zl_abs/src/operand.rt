@@ -7,7 +7,7 @@ ghost use Rattle.zl_code.specs.Instructions.{kinds_of};
 ghost use Rattle.zl_abs.specs.CallRules.{fault_of, takes_any, examined};
 ghost use Rattle.zl_abs.specs.Changes.{left_by};
 
-use crate::cause::Cause;
+use crate::cause::{Cause, RuleFault, Wanted};
 use crate::state::AbsState;
 use crate::value::{AbsVal, is_kind};
 use bitflags::Flags;
@@ -127,14 +127,25 @@ impl Operand {
         }
     }
 
+    /// What is asked of the register.
+    fn wanted(&self) -> Wanted {
+        Wanted::Handle {
+            kinds: self.kinds,
+            rights: self.rights,
+            may_be_zero: self.may_be_zero,
+        }
+    }
+
     /// Examines the operand, and takes it where it is consumed. Why it can't be, if it can't.
-    pub fn examine(&self, state: &mut AbsState) -> Option<Cause>
+    pub fn examine(&self, state: &mut AbsState) -> Option<RuleFault>
         ensures { left_by state.new result ≡ examined state.old self.now }
     {
-        let fault = self.fault(state.get(self.register));
-        if fault.is_none() && self.is_taken {
+        if let Some(cause) = self.fault(state.get(self.register)) {
+            return Some(cause.of(self.register, self.wanted()));
+        }
+        if self.is_taken {
             state.write(self.register, AbsVal::Word(0));
         }
-        fault
+        None
     }
 }

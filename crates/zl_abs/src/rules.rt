@@ -14,7 +14,7 @@ ghost use Rattle.zl_abs.specs.Targets.{jump_of};
 
 use crate::bounds::Bounds;
 use crate::call_rules::call_rule;
-use crate::cause::Cause;
+use crate::cause::{Cause, RuleFault};
 use crate::local_rules::local_rule;
 use crate::round_up::Rounding;
 use crate::state::AbsState;
@@ -80,7 +80,7 @@ fn steps_of_call(
     at: usize,
     call: CallInstr,
     state: &mut AbsState,
-) -> Result<Steps, Cause>
+) -> Result<Steps, RuleFault>
     requires in_range { IsTrue (is_call_in_range call) }
     requires inside { at < most_instructions }
     ensures { steps_told state.new result
@@ -91,9 +91,9 @@ fn steps_of_call(
     let changes = call_rule(bounds, image, call, &before, state);
     match steps_from(image, state, at, 0, changes) {
         Ok(steps) => Ok(steps),
-        Err(cause) => {
+        Err(fault) => {
             *state = before;
-            Err(cause)
+            Err(fault)
         }
     }
 }
@@ -116,7 +116,7 @@ fn steps_rounding(
     image: &Image,
     at: usize,
     state: &mut AbsState,
-) -> Result<Steps, Cause>
+) -> Result<Steps, RuleFault>
     ensures { steps_told state.new result
         ≡ rule_with (bounds_in bounds.entry) image.now at state.old }
 {
@@ -130,14 +130,14 @@ fn steps_rounding(
         return steps_of_call(bounds, image, at, call, state);
     }
     if at < length {
-        Err(Cause::IllegalOp)
+        Err(Cause::IllegalOp.alone())
     } else {
-        Err(Cause::FallsOff)
+        Err(Cause::FallsOff.alone())
     }
 }
 
 /// The edges in full, or why the rule doesn't hold.
-fn edges_of(state: &AbsState, steps: Result<Steps, Cause>) -> Result<Successors, Cause>
+fn edges_of(state: &AbsState, steps: Result<Steps, RuleFault>) -> Result<Successors, RuleFault>
     ensures { edges_told result ≡ steps_told state.now steps }
 {
     match steps {
@@ -145,7 +145,7 @@ fn edges_of(state: &AbsState, steps: Result<Steps, Cause>) -> Result<Successors,
             jump: edge_of(state, &steps.jump),
             next: edge_of(state, &steps.next),
         }),
-        Err(cause) => Err(cause),
+        Err(fault) => Err(fault),
     }
 }
 
@@ -155,7 +155,7 @@ fn transfer_rounding(
     image: &Image,
     at: usize,
     state: &AbsState,
-) -> Result<Successors, Cause>
+) -> Result<Successors, RuleFault>
     ensures { edges_told result ≡ rule_with (bounds_in bounds.entry) image.now at state.now }
 {
     let mut after = *state;
@@ -170,7 +170,7 @@ pub fn step_by(
     image: &Image,
     at: usize,
     state: &mut AbsState,
-) -> Result<Steps, Cause>
+) -> Result<Steps, RuleFault>
     ensures { steps_told state.new result ≡ rule_with bounds.now image.now at state.old }
 {
     steps_rounding(Rounding::List(bounds), image, at, state)
@@ -187,7 +187,7 @@ pub fn transfer_by(
     image: &Image,
     at: usize,
     state: &AbsState,
-) -> Result<Successors, Cause>
+) -> Result<Successors, RuleFault>
     ensures { edges_told result ≡ rule_with bounds.now image.now at state.now }
 {
     transfer_rounding(Rounding::List(bounds), image, at, state)
@@ -198,7 +198,7 @@ pub fn transfer_by(
 ///
 /// `FallsOff` also where there is no such instruction; `IllegalOp` also for an unknown opcode.
 /// Own profile.
-pub fn transfer(image: &Image, at: usize, state: &AbsState) -> Result<Successors, Cause>
+pub fn transfer(image: &Image, at: usize, state: &AbsState) -> Result<Successors, RuleFault>
     ensures { edges_told result ≡ rule image.now at state.now }
 {
     transfer_rounding(Rounding::Code(image.code()), image, at, state)

@@ -11,7 +11,7 @@ ghost use Rattle.zl_abs.specs.LocalRules.{moved};
 ghost use Rattle.zl_abs.specs.Rule.{word_at};
 ghost use Rattle.zl_abs.specs.Changes.{changed};
 
-use crate::cause::{Cause, Conflict};
+use crate::cause::{Cause, Conflict, RuleFault, Wanted};
 use crate::change::Change;
 use crate::value::AbsVal;
 use std::marker::Model;
@@ -82,12 +82,12 @@ impl AbsState {
     }
 
     /// What the register is at most, if it has a word.
-    pub(crate) fn word(&self, register: Register) -> Result<u64, Cause>
+    pub(crate) fn word(&self, register: Register) -> Result<u64, RuleFault>
         ensures { result ≡ word_at self.now register }
     {
         match self.get(register).bound() {
             Some(most) => Ok(most),
-            None => Err(Cause::NotWord),
+            None => Err(Cause::NotWord.of(register, Wanted::Number)),
         }
     }
 

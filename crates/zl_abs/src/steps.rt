@@ -5,7 +5,7 @@ ghost use Rattle.zl_code.specs.Limits.{most_instructions};
 ghost use Rattle.zl_abs.specs.Rule.{and_then, edge_to, edges};
 ghost use Rattle.zl_abs.specs.Changes.{changed_if, step_told, steps_told, ways_by, ways_told};
 
-use crate::cause::Cause;
+use crate::cause::{Cause, RuleFault};
 use crate::change::Change;
 use crate::state::AbsState;
 use crate::ways::Changes;
@@ -34,7 +34,7 @@ fn step_to(
     cause: Cause,
     target: usize,
     change: Option<Change>,
-) -> Result<Option<Step>, Cause>
+) -> Result<Option<Step>, RuleFault>
     ensures { step_told state.now result
         ≡ edge_to (length image.now.code) cause target (changed_if state.now change) }
 {
@@ -44,7 +44,7 @@ fn step_to(
     if target < image.len() {
         Ok(Some(Step { target, change }))
     } else {
-        Err(cause)
+        Err(cause.alone())
     }
 }
 
@@ -56,7 +56,7 @@ fn steps_of(
     place: usize,
     target: usize,
     changes: &Changes,
-) -> Result<Steps, Cause>
+) -> Result<Steps, RuleFault>
     requires { place < most_instructions }
     ensures { steps_told state.now result
         ≡ edges (length image.now.code) place target (ways_by state.now changes.now) }
@@ -72,14 +72,14 @@ pub(crate) fn steps_from(
     state: &AbsState,
     place: usize,
     target: usize,
-    changes: Result<Changes, Cause>,
-) -> Result<Steps, Cause>
+    changes: Result<Changes, RuleFault>,
+) -> Result<Steps, RuleFault>
     requires { place < most_instructions }
     ensures { steps_told state.now result
         ≡ and_then (ways_told state.now changes) (edges (length image.now.code) place target) }
 {
     match changes {
         Ok(changes) => steps_of(image, state, place, target, &changes),
-        Err(cause) => Err(cause),
+        Err(fault) => Err(fault),
     }
 }

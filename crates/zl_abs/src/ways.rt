@@ -4,7 +4,7 @@ ghost use Rattle.zl_abs.specs.LocalRules.{turned};
 ghost use Rattle.zl_abs.specs.CallRules.{stops};
 ghost use Rattle.zl_abs.specs.Changes.{changed, ways_by, ways_told};
 
-use crate::cause::Cause;
+use crate::cause::{Cause, RuleFault, Wanted};
 use crate::change::Change;
 use crate::state::AbsState;
 use crate::value::AbsVal;
@@ -51,11 +51,15 @@ impl Changes {
     }
 
     /// The register is written, which must not have a handle.
-    pub fn writing(state: &AbsState, register: Register, value: AbsVal) -> Result<Changes, Cause>
+    pub fn writing(
+        state: &AbsState,
+        register: Register,
+        value: AbsVal,
+    ) -> Result<Changes, RuleFault>
         ensures { ways_told state.now result ≡ writes state.now register value }
     {
         if state.get(register).is_has() {
-            Err(Cause::Leak)
+            Err(Cause::Leak.of(register, Wanted::Room))
         } else {
             Ok(Changes::passing(state, Change::Written(register, value)))
         }

@@ -1,4 +1,4 @@
-use Rattle.zl_abs.proofs.Common.{Row, bounds_in, call_reading, names_registers, row_value, subst, sym, true, whole, ◌∙◌, ◌≡◌}
+use Rattle.zl_abs.proofs.Common.{Err, Row, ap, bounds_in, call_reading, names_registers, row_value, subst, sym, true, whole, ◌∙◌, ◌≡◌}
 use Rattle.zl_abs.proofs.CallByRow.{array_stopped, stopped, ended}
 use Rattle.zl_abs.proofs.call_rules.call_rule.Goals as goal
 
@@ -9,7 +9,8 @@ returns-in-Some c =
 
 pub returns-in-Some-array_fault : goal.returns-in-Some-array_fault
 returns-in-Some-array_fault c =
-    array_stopped (bounds_in c.args.bounds) c.args.image.now c.args.state.now c.args.instr (row_value c.row.result) c.row.ensures.row
+    ap Err c.alone.ensures
+    ∙ array_stopped (bounds_in c.args.bounds) c.args.image.now c.args.state.now c.args.instr (row_value c.row.result) c.row.ensures.row
     _ (rw c.requires.same at (c.in_default.ensures {u = tt})) _ (c.in-Some-array_fault.ensures {u = tt})
 
 pub finish_with-fault-requires-clause-room : goal.finish_with-fault-requires-clause-room

@@ -132,13 +132,14 @@ fn bound(
     }
 }
 
-fn refuse(image: Image, fault: Fault) -> Refusal
-    ensures { result ≡ record { at = fault.at; cause = fault.cause; image = image } }
+fn refuse(image: Image, fault: Fault, seen: Seen) -> Refusal
+    ensures { result ≡ record { at = fault.at; cause = fault.cause; image = image; seen = seen } }
 {
     Refusal {
         at: fault.at,
         cause: fault.cause,
         image,
+        seen,
     }
 }
 
@@ -160,11 +161,12 @@ pub fn check(alloc: Global, image: Image) -> Result<Checked, Refusal>
     ensures exact { IfErr result (λ refusal. IsRefused image refusal.at refusal.cause) }
 {
     let Ok(bounds) = Bounds::of(alloc, &image) else {
-        return Err(refuse(image, Fault::at_once(RefusalCause::NoMemory)));
+        return Err(refuse(image, Fault::at_once(RefusalCause::NoMemory), Seen::NOTHING));
     };
-    let found = match solve(alloc, &bounds, &image, &mut Seen::NOTHING) {
+    let mut seen = Seen::NOTHING;
+    let found = match solve(alloc, &bounds, &image, &mut seen) {
         Ok(found) => found,
-        Err(fault) => return Err(refuse(image, fault)),
+        Err(fault) => return Err(refuse(image, fault, seen)),
     };
     match bound(alloc, &bounds, &image, &found) {
         Ok(steps) => Ok(Checked {
@@ -172,6 +174,6 @@ pub fn check(alloc: Global, image: Image) -> Result<Checked, Refusal>
             found,
             steps,
         }),
-        Err(fault) => Err(refuse(image, fault)),
+        Err(fault) => Err(refuse(image, fault, Seen::NOTHING)),
     }
 }

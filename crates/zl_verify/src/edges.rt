@@ -3,7 +3,7 @@ ghost use Rattle.zl_abs.specs.Bounds.{RoundAlike, bounds_of};
 ghost use Rattle.zl_abs.specs.Changes.{steps_told};
 ghost use Rattle.zl_abs.specs.Typing.{rule};
 
-use zl_abs::{AbsState, Bounds, Cause, Steps, step_by};
+use zl_abs::{AbsState, Bounds, RuleFault, Steps, step_by};
 use zl_code::Image;
 
 /// The edges that are followed from the instruction in this state, or why its rule doesn't hold
@@ -14,7 +14,7 @@ pub(crate) fn edges_at(
     image: &Image,
     at: usize,
     state: &mut AbsState,
-) -> Result<Steps, Cause>
+) -> Result<Steps, RuleFault>
     requires { RoundAlike bounds.now (bounds_of image.now.code) }
     ensures { steps_told state.new result ≡ rule image.now at state.old }
 {

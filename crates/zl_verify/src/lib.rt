@@ -32,5 +32,5 @@ mod way;
 pub use checked::{Checked, check};
 pub use least::is_solved_by_names;
 pub use refusal::{Refusal, RefusalCause};
-pub use seen::{Seen, seen_in};
+pub use seen::Seen;
 pub use way::{Stride, Way, way_from};

@@ -1,6 +1,7 @@
 ghost use Rattle.std.specs.Prelude.{◌≡◌};
 ghost use Rattle.zl_verify.specs.Names.{cause_name, rule_cause_name};
 
+use crate::seen::Seen;
 use zl_abs::Cause;
 use zl_code::Image;
 
@@ -18,13 +19,14 @@ pub enum RefusalCause {
     NoMemory,
 }
 
-/// An image that is refused, with the number of the instruction, counted from 0, and the cause. Own
-/// profile.
+/// An image that is refused, with the number of the instruction, counted from 0, the cause, and what was
+/// known there. Own profile.
 #[derive(Drop)]
 pub struct Refusal {
     pub at: usize,
     pub cause: RefusalCause,
     pub image: Image,
+    pub seen: Seen,
 }
 
 impl RefusalCause {

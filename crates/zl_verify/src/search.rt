@@ -275,11 +275,12 @@ impl Search {
     {
         match edges_at(bounds, image, place, state) {
             Ok(edges) => self.arrive(stretches, &edges, state, seen),
-            Err(cause) => {
+            Err(fault) => {
                 seen.known = Some(*state);
+                seen.blamed = fault.blamed();
                 Err(Fault {
                     at: place,
-                    cause: RefusalCause::Rule(cause),
+                    cause: RefusalCause::Rule(fault.cause()),
                 })
             }
         }

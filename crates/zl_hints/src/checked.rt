@@ -18,16 +18,17 @@ pub fn push_refused_block(
 ) -> Result<(), AllocError> {
     let block = block_of(alloc, input, opened)?;
     let lines = block.lines.as_slice();
-    let Some(Refusal { at, cause, image }) = refusal_of(alloc, lines, form) else {
+    let Some(refusal) = refusal_of(alloc, lines, form) else {
         return push_head(hint, opened, "Check");
     };
+    let at = refusal.at;
     let line = match form {
         Form::Asm => line_of(lines, at),
         Form::Hex => None,
     };
-    push_head(hint, line.unwrap_or(opened), cause.name())?;
+    push_head(hint, line.unwrap_or(opened), refusal.cause.name())?;
     push_text(hint, "instruction #: ", &[Number(at as u64)])?;
-    push_reason(hint, alloc, &image, at, cause)
+    push_reason(hint, alloc, &refusal)
 }
 
 /// Why the block of these lines is refused, if it is an image that is.

@@ -20,56 +20,39 @@ use places::Site;
 use register::push_register;
 use std::alloc::{AllocError, Global};
 use ways::{push_long_way, push_meeting};
-use zl_abs::Cause;
-use zl_code::{Image, InstrBytes};
+use zl_abs::{Blamed, Cause};
+use zl_code::InstrBytes;
 use zl_program_hints::push_instr_text;
-use zl_verify::{RefusalCause, seen_in};
+use zl_verify::{Refusal, RefusalCause};
 
 /// Adds a line that says why the image is refused at the instruction of this number.
-pub fn explain_refusal(
-    hints: &mut String,
-    alloc: Global,
-    image: &Image,
-    at: usize,
-    cause: RefusalCause,
-) {
-    if push_line(hints, alloc, image, at, cause).is_err() {
+pub fn explain_refusal(hints: &mut String, alloc: Global, refusal: &Refusal) {
+    if push_line(hints, alloc, refusal).is_err() {
         hints.clear();
     }
 }
 
-fn push_line(
-    hints: &mut String,
-    alloc: Global,
-    image: &Image,
-    at: usize,
-    cause: RefusalCause,
-) -> Result<(), AllocError> {
-    let name = cause.name();
+fn push_line(hints: &mut String, alloc: Global, refusal: &Refusal) -> Result<(), AllocError> {
+    let (at, name) = (refusal.at, refusal.cause.name());
     write!(hints, "zlab: instruction {at}: {name}: ")?;
-    push_reason(hints, alloc, image, at, cause)?;
+    push_reason(hints, alloc, refusal)?;
     hints.push_str("\n")
 }
 
 /// Adds the instruction of this number, why the image is refused there, and the page on the cause.
-pub fn push_reason(
-    hints: &mut String,
-    alloc: Global,
-    image: &Image,
-    at: usize,
-    cause: RefusalCause,
-) -> Result<(), AllocError> {
+pub fn push_reason(hints: &mut String, alloc: Global, refusal: &Refusal) -> Result<(), AllocError> {
+    let (image, at) = (&refusal.image, refusal.at);
     if at < image.len() {
         push_instr_text(hints, alloc, image, at)?;
         hints.push_str(": ")?;
     }
-    match cause {
-        RefusalCause::Rule(cause) => push_rule(hints, alloc, image, at, cause)?,
-        RefusalCause::JoinConflict => push_meeting(hints, alloc, image)?,
+    match refusal.cause {
+        RefusalCause::Rule(cause) => push_rule(hints, refusal, cause)?,
+        RefusalCause::JoinConflict => push_meeting(hints, &refusal.seen)?,
         RefusalCause::Budget => push_long_way(hints, alloc, image, at)?,
         RefusalCause::NoMemory => return Err(AllocError),
     }
-    push_page(hints, alloc, cause.name())
+    push_page(hints, alloc, refusal.cause.name())
 }
 
 /// Adds the heading below which the verifier's page speaks of the cause.
@@ -81,14 +64,8 @@ fn push_page(hints: &mut String, alloc: Global, cause: &str) -> Result<(), Alloc
 }
 
 /// Adds why the rule of the instruction doesn't hold.
-fn push_rule(
-    hints: &mut String,
-    alloc: Global,
-    image: &Image,
-    at: usize,
-    cause: Cause,
-) -> Result<(), AllocError> {
-    let Some(site) = site_of(alloc, image, at) else {
+fn push_rule(hints: &mut String, refusal: &Refusal, cause: Cause) -> Result<(), AllocError> {
+    let Some(site) = site_of(refusal) else {
         return hints.push_str(reason_of(cause));
     };
     match cause {
@@ -97,14 +74,22 @@ fn push_rule(
         Cause::FallsOff => hints.push_str(reason_of(cause)),
         Cause::UndeclaredNeed => push_need(hints, &site),
         Cause::IllegalOp => push_illegal(hints, &site),
-        _ => push_fault(hints, &site, cause),
+        _ => push_fault(hints, &site, &refusal.seen.blamed, cause),
     }
 }
 
 /// Adds which register is at fault for the cause, or that the slot array is; what is known of all registers
 /// where neither is found.
-fn push_fault(hints: &mut String, site: &Site, cause: Cause) -> Result<(), AllocError> {
-    if push_register(hints, site, cause)? || push_array(hints, site, cause)? {
+fn push_fault(
+    hints: &mut String,
+    site: &Site,
+    blamed: &Option<Blamed>,
+    cause: Cause,
+) -> Result<(), AllocError> {
+    if let Some(blamed) = blamed {
+        return push_register(hints, site, blamed, cause);
+    }
+    if push_array(hints, site, cause)? {
         return Ok(());
     }
     hints.push_str(reason_of(cause))?;
@@ -112,15 +97,15 @@ fn push_fault(hints: &mut String, site: &Site, cause: Cause) -> Result<(), Alloc
 }
 
 /// The instruction of this number, and what is known there.
-fn site_of<'a>(alloc: Global, image: &'a Image, at: usize) -> Option<Site<'a>> {
-    let Some(instr) = image.instr_at(at) else {
+fn site_of(refusal: &Refusal) -> Option<Site<'_>> {
+    let Some(instr) = refusal.image.instr_at(refusal.at) else {
         return None;
     };
-    let state = seen_in(alloc, image)?.known?;
+    let state = refusal.seen.known?;
     let parts = InstrBytes::split(instr.to_bytes());
     Some(Site {
-        image,
-        at,
+        image: &refusal.image,
+        at: refusal.at,
         parts,
         state,
     })

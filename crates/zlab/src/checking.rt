@@ -86,7 +86,7 @@ fn verified(alloc: Global, image: Image, hints: &mut String) -> Result<Finding, 
         Err(refusal) => match refusal.cause {
             RefusalCause::NoMemory => Err(EngineFault::NoMemory),
             cause => {
-                explain_refusal(hints, alloc, &refusal.image, refusal.at, cause);
+                explain_refusal(hints, alloc, &refusal);
                 Ok(Finding::Refused(refusal.at, cause))
             }
         },

@@ -1,40 +1,40 @@
 //! What to do about a register that is at fault.
 
 use crate::refusal::known::{REGISTERS, kind_name, numbered};
-use crate::refusal::places::{MOST_PLACES, Place, Site, Use, first_of, is_among, wanted_at};
-use crate::refusal::register::missing_at;
+use crate::refusal::places::{MOST_PLACES, Site, Use, first_of, is_among};
+use crate::refusal::register::{kinds_of, missing_of};
 use bitflags::Flags;
 use std::alloc::AllocError;
-use zl_abs::{AbsVal, Cause};
+use zl_abs::{AbsVal, Blamed, Cause};
 use zl_code::{CallName, InstrBytes, Register, Start};
 use zl_program_hints::Value::{Name, Number};
 use zl_program_hints::{Value, push_text};
 use zl_rights::{Kind, Rights};
 
-/// Adds what to do about the register in the place, where something is known.
+/// Adds what to do about the register that is at fault, where something is known.
 pub fn push_advice(
     hint: &mut String,
     site: &Site,
-    place: &Place,
+    blamed: &Blamed,
     cause: Cause,
 ) -> Result<(), AllocError> {
-    let register = numbered(place.register);
-    match (cause, site.state.get(place.register)) {
-        (Cause::WrongKind, AbsVal::Has { kind: None, .. }) => push_test_of_kind(hint, site, place),
+    let register = numbered(blamed.register);
+    match (cause, site.state.get(blamed.register)) {
+        (Cause::WrongKind, AbsVal::Has { kind: None, .. }) => push_test_of_kind(hint, site, blamed),
         (Cause::LacksRight, AbsVal::Has { kind, rights, .. }) => {
-            let missing = missing_at(site, place, rights);
+            let missing = missing_of(blamed, rights);
             match kind {
                 Some(kind) if !missing.within(kind.default_rights()) => {
                     push_text(hint, "; no # has that", &[Name(kind.name())])
                 }
-                _ => push_test_of_rights(hint, site, place.register, kind, rights, missing),
+                _ => push_test_of_rights(hint, site, blamed.register, kind, rights, missing),
             }
         }
         (Cause::NotLive, value) => {
-            let text = advice_on_nil(site, place.register, value);
+            let text = advice_on_nil(site, blamed.register, value);
             push_text(hint, text, &[register, register])
         }
-        (Cause::Leak, _) if is_of_an_earlier_round(site, place.register) => {
+        (Cause::Leak, _) if is_of_an_earlier_round(site, blamed.register) => {
             let text = "; r# may still have the handle of the round before: close it first";
             push_text(hint, text, &[register])
         }
@@ -122,15 +122,15 @@ fn tag_of(site: &Site, register: Register, is_kind: bool) -> Option<Register> {
 }
 
 /// Adds how to know of the handle's kind, where that can be known.
-fn push_test_of_kind(hint: &mut String, site: &Site, place: &Place) -> Result<(), AllocError> {
-    let Some(kind) = first_of(wanted_at(site, place).kinds) else {
+fn push_test_of_kind(hint: &mut String, site: &Site, blamed: &Blamed) -> Result<(), AllocError> {
+    let Some(kind) = first_of(kinds_of(blamed)) else {
         return Ok(());
     };
     let number = Number(u64::from(kind.number()));
-    if let Some(tag) = tag_of(site, place.register, true) {
+    if let Some(tag) = tag_of(site, blamed.register, true) {
         let text = "; test its kind: jne r#, #, ..";
         push_text(hint, text, &[numbered(tag), number])
-    } else if is_of_start(site, place.register) {
+    } else if is_of_start(site, blamed.register) {
         let text = "; its .start line can say # in place of any";
         push_text(hint, text, &[Name(kind.name())])
     } else if has_handle_info(site) {

@@ -1,9 +1,8 @@
-//! The registers of an instruction, and what its rule wants of each, as its row has it.
+//! The registers of an instruction, and what it does with each, as its row has it.
 
-use bitflags::Flags;
 use zl_abs::AbsState;
 use zl_code::{Columns, Ending, Field, Image, InstrBytes, Kinds, Register, Row};
-use zl_rights::{Kind, Rights};
+use zl_rights::Kind;
 
 /// The instruction at which an image is refused, and what is known there.
 #[derive(Clone, Copy)]
@@ -23,8 +22,6 @@ pub struct Place {
     pub field: Field,
     /// Whether it gets the handle of a slot, for the one that it has.
     pub is_swapped: bool,
-    /// Which one it is, from 0, in the order of the text.
-    pub index: usize,
 }
 
 /// What may be done with a register.
@@ -34,15 +31,6 @@ pub enum Use {
     Answer,
     /// The same, or the handle of a slot.
     Write,
-    /// Its handle is given away, or closed.
-    Give,
-}
-
-/// What a handle has to be.
-#[derive(Clone, Copy)]
-pub struct Wanted {
-    pub kinds: Kinds,
-    pub rights: Rights,
 }
 
 /// The most registers that an instruction reads or writes.
@@ -70,7 +58,6 @@ pub fn place_at(parts: InstrBytes, index: usize) -> Option<Place> {
             (field, row.columns.ending),
             (Field::Changes, Ending::Number)
         ),
-        index,
     })
 }
 
@@ -103,14 +90,8 @@ impl Place {
         match (way, self.field) {
             (Use::Answer | Use::Write, Field::Writes | Field::Triples) => true,
             (Use::Write, Field::Changes) => self.is_swapped,
-            (Use::Give, Field::Closes | Field::Consumes(..)) => true,
             _ => false,
         }
-    }
-
-    /// Whether 0 will do in place of a handle.
-    pub fn may_be_zero(&self) -> bool {
-        matches!(self.field, Field::Changes | Field::Closes)
     }
 }
 
@@ -125,37 +106,6 @@ pub fn is_among(parts: InstrBytes, places: usize, register: Register, way: Use) 
         }
     }
     false
-}
-
-/// What the handle in the place has to be; one that is swapped has to fit its array of slots.
-pub fn wanted_at(site: &Site, place: &Place) -> Wanted {
-    let (kinds, rights) = match place.field {
-        Field::Names(kinds, rights) => (kinds, rights),
-        Field::Consumes(kinds, rights) => (kinds, rights),
-        _ => match site.image.slots().get(site.parts.imm() as usize) {
-            Some(array) if place.is_swapped => (kinds_of(array.kind), array.rights),
-            _ => (Kinds::Any, Rights::empty()),
-        },
-    };
-    Wanted { kinds, rights }
-}
-
-/// The kind as a row has it, any where there is none.
-fn kinds_of(kind: Option<Kind>) -> Kinds {
-    match kind {
-        Some(kind) => Kinds::Only(kind),
-        None => Kinds::Any,
-    }
-}
-
-/// Whether a handle of which this is known of its kind will do for these.
-pub fn is_taken(kinds: Kinds, known: Option<Kind>) -> bool {
-    match kinds {
-        Kinds::Any => true,
-        Kinds::Only(kind) => known == Some(kind),
-        Kinds::Tasks => matches!(known, Some(Kind::Process | Kind::Job)),
-        Kinds::Ends => matches!(known, Some(Kind::Channel | Kind::Eventpair)),
-    }
 }
 
 /// The first kind of these, where not all are taken.

@@ -7,21 +7,15 @@ use std::alloc::{AllocError, Global};
 use zl_code::{Image, Register};
 use zl_program_hints::Value::{Name, Number};
 use zl_program_hints::push_text;
-use zl_verify::{Seen, Stride, Way, seen_in, way_from};
+use zl_verify::{Seen, Stride, Way, way_from};
 
 /// How many instructions are told of the beginning of a long way, and of its end.
 const SHOWN: usize = 6;
 
 /// Adds which register holds what nothing describes after both ways that meet.
-pub fn push_meeting(hint: &mut String, alloc: Global, image: &Image) -> Result<(), AllocError> {
+pub fn push_meeting(hint: &mut String, seen: &Seen) -> Result<(), AllocError> {
     hint.push_str("two ways meet here")?;
-    let Some(
-        Seen {
-            known: Some(known),
-            other: Some(other),
-        },
-    ) = seen_in(alloc, image)
-    else {
+    let (Some(known), Some(other)) = (seen.known, seen.other) else {
         return Ok(());
     };
     for number in 0..REGISTERS {

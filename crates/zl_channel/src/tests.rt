@@ -118,21 +118,26 @@ fn an_object_is_named_while_a_handle_with_the_rights_is_queued(
     assert!(rt; !end.has_named(10, Rights::WRITE));
     assert!(rt; !end.has_named(12, Rights::NONE));
     let mut handles = Handles::new(rt.alloc());
-    handles.push(Entry {
-        rights: Rights::WRITE,
-        ..event(10)
-    })?;
+    for kind in [Kind::Channel, Kind::Event] {
+        handles.push(Entry {
+            rights: kind.default_rights(),
+            ..event(10)
+        })?;
+    }
     let last = Message {
         bytes: Vec::new(rt.alloc()),
         handles,
     };
     assert!(rt; end.push(last).is_ok());
-    assert!(rt; end.has_named(10, Rights::WRITE));
-    assert!(rt; !end.has_named(10, Rights::READ.union(Rights::WRITE)));
+    assert!(rt; end.has_named(10, Rights::SIGNAL_PEER));
+    assert!(rt; end.has_named(10, Kind::Event.default_rights()));
+    // The one lacks the right to copy, and the other that to signal the other end.
+    assert!(rt; !end.has_named(10, Kind::Eventpair.default_rights()));
     assert!(rt; end.take().is_some());
     assert!(rt; end.take().is_some());
     assert!(rt; !end.has_named(11, Rights::NONE));
-    assert!(rt; !end.has_named(10, Rights::READ));
     assert!(rt; end.has_named(10, Rights::WRITE));
+    assert!(rt; end.take().is_some());
+    assert!(rt; !end.has_named(10, Rights::NONE));
     Ok(())
 }

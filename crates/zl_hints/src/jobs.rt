@@ -5,6 +5,7 @@ use crate::numbers::{decimal, push_no_number};
 use std::alloc::{AllocError, Global};
 use zl_program_hints::{Word, push_nearest};
 use zl_rights::{Condition, Kind};
+use zl_scenario::Cause;
 
 /// The conditions that a policy knows.
 const CONDITIONS: [&str; 8] = [
@@ -23,15 +24,15 @@ pub fn push_job(
     hint: &mut String,
     words: &[&[u8]],
     above: &Above,
-    cause: &str,
+    cause: Cause,
 ) -> Result<(), AllocError> {
     let [parent] = words else {
         let count = words.len();
         return write!(hint, "job takes 1 word, PARENT, and has {count}");
     };
     match cause {
-        "Unknown" => push_no_job(hint, parent, above),
-        "Limit" => write!(
+        Cause::Unknown => push_no_job(hint, parent, above),
+        Cause::Limit => write!(
             hint,
             "job {} stands at the depth 16, and no job is made below it; job 1 has the depth 1",
             Word(parent)
@@ -46,7 +47,7 @@ pub fn push_policy(
     alloc: Global,
     words: &[&[u8]],
     above: &Above,
-    cause: &str,
+    cause: Cause,
 ) -> Result<(), AllocError> {
     let [job, condition, action] = words else {
         let count = words.len();
@@ -56,13 +57,13 @@ pub fn push_policy(
         );
     };
     match cause {
-        "Unknown" => push_no_job(hint, job, above),
-        "BadState" => write!(
+        Cause::Unknown => push_no_job(hint, job, above),
+        Cause::BadState => write!(
             hint,
             "a job or process is made in job {} above this line; its policy is set before that",
             Word(job)
         ),
-        "Conflict" => write!(
+        Cause::Conflict => write!(
             hint,
             "the policy of job {} has another action for {}, set above or in the job it was made in",
             Word(job),

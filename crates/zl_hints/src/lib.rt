@@ -28,7 +28,7 @@ mod starts;
 pub use bad::explain_bad;
 pub use command::explain_words;
 pub use failing::{explain_failure, explain_opening};
-pub use page::{add_page, push_page};
+pub use page::{Page, add_page, push_page};
 pub use refusal::explain_refusal;
 pub use scenario::{explain_scenario, is_among};
 pub use source::{LONE_SCENARIO, STANDARD_INPUT, Source};

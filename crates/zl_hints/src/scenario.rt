@@ -5,7 +5,7 @@ use crate::checked::push_refused_block;
 use crate::handles::{push_no_handle, push_no_object, push_wrong_handles};
 use crate::jobs::{push_job, push_no_job, push_policy};
 use crate::numbers::{decimal, push_first_no_number, push_names, push_no_number};
-use crate::page::push_page;
+use crate::page::{Page, push_page};
 use crate::source::Source;
 use std::alloc::{AllocError, Global};
 use zl_asm::words::is;
@@ -14,7 +14,7 @@ use zl_program_hints::{
     push_block_fault, push_head, push_nearest, push_odd_byte, push_text, words_of,
 };
 use zl_rights::Kind;
-use zl_scenario::{Form, LineFault};
+use zl_scenario::{Cause, Form, LineFault};
 
 /// The statements and lines that there are.
 const STATEMENTS: [&str; 11] = [
@@ -63,34 +63,37 @@ fn push_fault(
     input: &[u8],
     fault: LineFault,
 ) -> Result<(), AllocError> {
-    let (number, cause) = (fault.line, fault.cause.name());
+    let LineFault {
+        line: number,
+        cause,
+    } = fault;
     let lines = numbered_lines(alloc, input)?;
     let lines = lines.as_slice();
     let Some(line) = lines.get((number as usize).wrapping_sub(1)) else {
-        push_head(hint, number, cause)?;
+        push_head(hint, number, cause.name())?;
         hint.push_str("the input has more than 4194304 bytes")?;
-        push_page(hint, cause)?;
+        push_page(hint, Page::Line(cause))?;
         return hint.push_str("\n");
     };
     let above = read_above(alloc, source, lines, number)?;
     let words = words_of(alloc, line.bytes)?;
     let words = words.as_slice();
     match above.part {
-        Part::Statements if is_opening(words) && cause == "Check" => {
+        Part::Statements if is_opening(words) && matches!(cause, Cause::Check) => {
             push_refused_block(hint, alloc, lines, number, form_of(words))?;
         }
-        Part::Statements if is_opening(words) && cause != "Limit" => {
+        Part::Statements if is_opening(words) && !matches!(cause, Cause::Limit) => {
             push_block_fault(hint, alloc, lines, number, words)?;
-            push_page(hint, name_of_block(words, cause))?;
+            push_page(hint, page_of_block(words, cause))?;
         }
         _ => {
             source.push_place(hint, lines, number)?;
-            push_text(hint, "#: ", &[Value::Name(cause)])?;
+            push_text(hint, "#: ", &[Value::Name(cause.name())])?;
             match odd_place(line.bytes) {
                 Some(place) => push_odd_byte(hint, line.bytes, place)?,
                 None => push_line_fault(hint, alloc, lines, words, &above, cause)?,
             }
-            push_page(hint, name_of_line(above.part, cause))?;
+            push_page(hint, page_of_line(above.part, cause))?;
         }
     }
     hint.push_str("\n")
@@ -104,20 +107,20 @@ pub fn form_of(words: &[&[u8]]) -> Form {
     }
 }
 
-/// What the page that helps with a block goes by, which these words open.
-fn name_of_block<'a>(words: &[&[u8]], cause: &'a str) -> &'a str {
-    match form_of(words) {
-        Form::Hex if cause == "Program" => "image",
-        Form::Asm if cause == "Program" => "text",
-        _ => cause,
+/// The page that helps with a block, which these words open.
+fn page_of_block(words: &[&[u8]], cause: Cause) -> Page {
+    match (form_of(words), cause) {
+        (Form::Hex, Cause::Program) => Page::Image,
+        (Form::Asm, Cause::Program) => Page::Text,
+        _ => Page::Line(cause),
     }
 }
 
-/// What the page that helps with a line of this part goes by.
-fn name_of_line(part: Part, cause: &str) -> &str {
+/// The page that helps with a line of this part.
+fn page_of_line(part: Part, cause: Cause) -> Page {
     match part {
-        Part::Schedule => "turns",
-        _ => cause,
+        Part::Schedule => Page::Turns,
+        _ => Page::Line(cause),
     }
 }
 
@@ -137,7 +140,7 @@ fn push_line_fault(
     lines: &[Line],
     words: &[&[u8]],
     above: &Above,
-    cause: &str,
+    cause: Cause,
 ) -> Result<(), AllocError> {
     match above.part {
         Part::Schedule => push_turns(hint, words, above)?,
@@ -165,20 +168,22 @@ fn push_statement(
     lines: &[Line],
     words: &[&[u8]],
     above: &Above,
-    cause: &str,
+    cause: Cause,
 ) -> Result<(), AllocError> {
     match words {
         [name, rest @ ..] if is(name, b"process") => {
             push_process(hint, alloc, lines, rest, above, cause)
         }
-        [name, _] if is(name, b"job") && cause == "Limit" && is_full(above) => {
+        [name, _] if is(name, b"job") && matches!(cause, Cause::Limit) && is_full(above) => {
             push_no_koid(hint, above)
         }
         [name, rest @ ..] if is(name, b"job") => push_job(hint, rest, above, cause),
         [name, rest @ ..] if is(name, b"policy") => push_policy(hint, alloc, rest, above, cause),
         [name, rest @ ..] if is(name, b"limit") => push_limit(hint, rest),
         [name, rest @ ..] if is(name, b"program") => push_opening(hint, alloc, rest),
-        [name, ..] if is_among(name, &OBJECTS) && cause == "Limit" => { push_no_koid(hint, above) }
+        [name, ..] if is_among(name, &OBJECTS) && matches!(cause, Cause::Limit) => {
+            push_no_koid(hint, above)
+        }
         [name] if is(name, b"--") => {
             hint.push_str("-- begins a schedule, and run and replay take none")
         }
@@ -226,7 +231,7 @@ fn push_process(
     lines: &[Line],
     words: &[&[u8]],
     above: &Above,
-    cause: &str,
+    cause: Cause,
 ) -> Result<(), AllocError> {
     let [job, program, _, handles @ ..] = words else {
         let count = words.len();
@@ -236,11 +241,11 @@ fn push_process(
         );
     };
     match cause {
-        "Unknown" => push_unknown(hint, job, program, handles, above),
-        "BadHandleList" => push_wrong_handles(hint, alloc, lines, program, handles, above),
-        "NeedDenied" => hint.push_str("the job doesn't allow what the checked program needs"),
-        "Limit" if above.count(Kind::Process) < MOST_PROCESSES => push_no_koid(hint, above),
-        "Limit" => hint.push_str("a scenario starts at most 64 processes"),
+        Cause::Unknown => push_unknown(hint, job, program, handles, above),
+        Cause::BadHandleList => push_wrong_handles(hint, alloc, lines, program, handles, above),
+        Cause::NeedDenied => hint.push_str("the job doesn't allow what the checked program needs"),
+        Cause::Limit if above.count(Kind::Process) < MOST_PROCESSES => push_no_koid(hint, above),
+        Cause::Limit => hint.push_str("a scenario starts at most 64 processes"),
         _ => {
             if push_first_no_number(hint, words, &["JOB", "PROGRAM", "WORD"])? {
                 return Ok(());

@@ -14,7 +14,7 @@ use std::alloc::Global;
 use std::io::{Read, Write};
 use zl_asm::{AsmCause, AsmFault, assemble_bytes};
 use zl_code::encode;
-use zl_hints::add_page;
+use zl_hints::{Page, add_page};
 use zl_program_hints::explain_program;
 use zl_trace::write_all;
 
@@ -64,7 +64,7 @@ pub fn asm_engine<R: Read, I: Write, L: Write>(
         Assembled::Refused(fault) => {
             write_fault(alloc, line, fault)?;
             explain_program(hints, alloc, kept.as_slice(), fault);
-            add_page(hints, "text");
+            add_page(hints, Page::Text);
             Ok(Verdict::Refused)
         }
     }

@@ -10,7 +10,7 @@ use crate::text::push_refusal;
 use std::alloc::{AllocError, Global};
 use std::io::{Read, Write};
 use zl_code::{DecodeFault, Image, decode};
-use zl_hints::{add_page, explain_refusal};
+use zl_hints::{Page, add_page, explain_refusal};
 use zl_program_hints::explain_image;
 use zl_trace::write_all;
 use zl_verify::{RefusalCause, check};
@@ -69,7 +69,7 @@ fn finding_of(alloc: Global, front: &[u8], hints: &mut String) -> Result<Finding
             DecodeFault::NoMemory => Err(EngineFault::NoMemory),
             _ => {
                 explain_image(hints, front, fault);
-                add_page(hints, "image");
+                add_page(hints, Page::Image);
                 Ok(Finding::Undecodable(fault))
             }
         },

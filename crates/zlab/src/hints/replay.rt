@@ -3,7 +3,7 @@
 use std::alloc::{AllocError, Global};
 use zl_calls::World;
 use zl_code::{CallName, ProcState, TraceItem};
-use zl_hints::{is_among, push_page};
+use zl_hints::{Page, is_among, push_page};
 use zl_lines::{is_comment, split_words};
 use zl_program_hints::Value::Number;
 use zl_program_hints::{Value, line_at, push_nearest, push_text, words_of};
@@ -87,7 +87,7 @@ fn push_difference(
 
 /// Adds the page that helps, and the end of the line.
 fn push_end(hints: &mut String) -> Result<(), AllocError> {
-    push_page(hints, "trace")?;
+    push_page(hints, Page::Trace)?;
     hints.push_str("\n")
 }
 

@@ -8,7 +8,7 @@
 //! Texts for people have no contract: each function is safe and returns, whatever it is given, and no
 //! more is promised. Where memory is refused there is no hint. Of an input nothing is called before it is
 //! refused, so what is found here is found anew, line by line, from the input and the cause that the
-//! answer has.
+//! answer has; of a refused image the refusal brings what was seen and which register is at fault.
 #![tactic(auto)]
 
 mod above;

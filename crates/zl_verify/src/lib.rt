@@ -3,8 +3,9 @@
 //! It stands on `zl_abs`, for states and rules, and on `zl_code`, for images. It promises that an
 //! accepted image has a typing and a step bound, which `Checked` keeps, and that a refusal is exact:
 //! but for want of memory, an image is refused for a rule or a join only where it has no typing, and
-//! for its budget only where no typing of it has a step bound. A refusal hands the image back. The
-//! search for the least typing knows nothing of handles. `laws` says what a typing is good for.
+//! for its budget only where no typing of it has a step bound. A refusal hands the image back, and
+//! what was seen of it. The search for the least typing knows nothing of handles. `laws` says what a
+//! typing is good for.
 #![tactic(auto)]
 
 mod ahead;

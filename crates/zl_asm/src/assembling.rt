@@ -51,11 +51,8 @@ fn read_lines<'a>(alloc: Global, text: &'a [u8]) -> Result<Draft<'a>, AsmFault>
     let mut operands = Vec::new(alloc);
     for (index, line) in text.split(|byte| *byte == b'\n').enumerate() {
         let number = index as u64 + 1;
-        if let Err(cause) = draft.read_line(number, line, &mut words, &mut operands) {
-            return Err(AsmFault {
-                line: number,
-                cause,
-            });
+        if let Err(fault) = draft.read_line(number, line, &mut words, &mut operands) {
+            return Err(fault.in_line(number));
         }
     }
     Ok(draft)

@@ -4,7 +4,7 @@ ghost use Rattle.zl_code.specs.Limits.{most_instructions, most_memory, most_budg
 ghost use Rattle.zl_asm.specs.Kept.{is_kept_in_range};
 
 use crate::directive::Directive;
-use crate::fault::{AsmCause, AsmFault};
+use crate::fault::{AsmCause, AsmFault, WordFault};
 use crate::label_map::{Labels, TextHasher};
 use crate::line::{Line, Source, line_of};
 use crate::pairing::nested;
@@ -33,10 +33,12 @@ pub(crate) struct Draft<'a> {
     ghost fit: { All (λ s. IsTrue (is_kept_in_range image.version image.raw s.kept)) sources.items },
 }
 
-/// An instruction and the number of its line.
+/// An instruction, the number of its line, and that of the last word there, which is its target if it
+/// names a label.
 #[derive(Clone, Copy)]
 pub(crate) struct SourceLine<'a> {
     line: u64,
+    last: usize,
     kept: Kept<'a>,
 }
 
@@ -196,12 +198,12 @@ impl<'a> Draft<'a> {
     }
 
     /// Takes a label.
-    pub(crate) fn push_label(&mut self, name: &'a [u8]) -> Result<(), AsmCause>
+    pub(crate) fn push_label(&mut self, name: &'a [u8]) -> Result<(), WordFault>
         ensures held { OnOk result (Holds (held_by self.old) (Label name.now) (held_by self.new)) }
         ensures refused { OnRefusal result (Refuses (held_by self.old) (Label name.now)) }
     {
         if self.labels.contains_key(name) {
-            return Err(AsmCause::LabelTwice);
+            return Err(AsmCause::LabelTwice.at(0));
         }
         self.labels.insert(name, self.sources.len() as u32)?;
         self.has_begun = true;
@@ -209,8 +211,8 @@ impl<'a> Draft<'a> {
         Ok(())
     }
 
-    /// Takes an instruction of the line of this number.
-    pub(crate) fn push_source(&mut self, line: u64, source: Source<'a>) -> Result<(), AsmCause>
+    /// Takes an instruction of the line and the last word of these numbers.
+    fn push_source(&mut self, line: u64, last: usize, source: Source<'a>) -> Result<(), AsmCause>
         ensures held { OnOk result
             (Holds (held_by self.old) (Code (source_value source.entry)) (held_by self.new)) }
         ensures refused { OnRefusal result
@@ -222,7 +224,7 @@ impl<'a> Draft<'a> {
         match kept_of(self.image.version(), self.image.is_raw(), &source) {
             Ok(kept) => {
                 self.sources
-                    .extend_from_slice(&[SourceLine { line, kept }])?;
+                    .extend_from_slice(&[SourceLine { line, last, kept }])?;
                 self.has_begun = true;
                 self.has_body = true;
                 Ok(())
@@ -238,19 +240,22 @@ impl<'a> Draft<'a> {
         line: &'a [u8],
         words: &mut Vec<&'a [u8]>,
         operands: &mut Vec<&'a [u8]>,
-    ) -> Result<(), AsmCause>
+    ) -> Result<(), WordFault>
         ensures read { OnOk result (Reads (held_by self.old) line.now (held_by self.new)) }
         ensures refused { OnRefusal result (Stops (held_by self.old) line.now) }
     {
         if !is_ascii(line) {
-            return Err(AsmCause::Token);
+            return Err(AsmCause::Token.alone());
         }
         split_words(words, line)?;
         match line_of(self.image.version(), words, operands)? {
             Line::Blank => Ok(()),
-            Line::Declares(directive) => self.declare(directive),
+            Line::Declares(directive) => Ok(self.declare(directive)?),
             Line::Label(name) => self.push_label(name),
-            Line::Code(source) => self.push_source(number, source),
+            Line::Code(source) => {
+                let last = words.len().saturating_sub(1);
+                Ok(self.push_source(number, last, source)?)
+            }
         }
     }
 
@@ -267,7 +272,8 @@ impl<'a> Draft<'a> {
         while let Some(entry) = self.sources.get(code.len()) {
             if let Err(cause) = push_kept(&mut code, &self.labels, version, raw, &entry.kept) {
                 let line = entry.line;
-                return Err(AsmFault { line, cause });
+                let word = (cause == AsmCause::LabelMissing).then_some(entry.last);
+                return Err(AsmFault { line, cause, word });
             }
         }
         Ok(code)
@@ -300,6 +306,7 @@ impl<'a> Draft<'a> {
             Err(breach) => Err(AsmFault {
                 line: self.line_at(breach.place),
                 cause: breach.cause,
+                word: None,
             }),
         }
     }

@@ -3,6 +3,7 @@ ghost use Rattle.zl_asm.specs.Causes.{cause_name};
 ghost use Rattle.zl_asm.specs.declared.fault.AsmCause.TheVariants.{NoMemory};
 
 use std::alloc::{AllocError, AllocFailed};
+use std::marker::Model;
 
 /// Why a text denotes no image, or want of memory. Own profile.
 #[derive(Clone, Copy, PartialEq, Eq, Debug)]
@@ -31,11 +32,31 @@ pub enum AsmCause {
     Block,
 }
 
-/// The line of a text that is at fault, counted from 1, and why. Own profile.
+/// The line of a text that is at fault, counted from 1, and why. No clause says which of its words is
+/// at fault. Own profile.
 #[derive(Clone, Copy, PartialEq, Eq, Debug)]
 pub struct AsmFault {
     pub line: u64,
     pub cause: AsmCause,
+    /// The first word that is at fault, of those that `words::split_words` gives, counted from 0. None
+    /// where no single word is, as where an operand is missing.
+    pub word: Option<usize>,
+}
+
+/// Why a line stands in no text, with the word that is at fault, where it is one. Contracts see the
+/// cause.
+#[derive(Drop)]
+pub(crate) struct WordFault {
+    cause: AsmCause,
+    word: Option<usize>,
+}
+
+impl Model for WordFault {
+    ghost use Rattle.zl_asm.specs.declared.fault.AsmCause.{AsmCause};
+
+    ghost Value = { AsmCause };
+
+    ghost view = { λ f. f.cause };
 }
 
 impl AsmCause {
@@ -54,6 +75,39 @@ impl AsmCause {
             AsmCause::Block => "Block",
         }
     }
+
+    /// The cause where no single word is at fault.
+    pub(crate) fn alone(self) -> WordFault
+        ensures { result ≡ self }
+    {
+        WordFault {
+            cause: self,
+            word: None,
+        }
+    }
+
+    /// The cause where this word is at fault.
+    pub(crate) fn at(self, word: usize) -> WordFault
+        ensures { result ≡ self }
+    {
+        WordFault {
+            cause: self,
+            word: Some(word),
+        }
+    }
+}
+
+impl WordFault {
+    /// The fault in the line of this number.
+    pub(crate) fn in_line(self, line: u64) -> AsmFault
+        ensures { result.cause ≡ self }
+    {
+        AsmFault {
+            line,
+            cause: self.cause,
+            word: self.word,
+        }
+    }
 }
 
 impl From<AllocError> for AsmCause {
@@ -64,10 +118,26 @@ impl From<AllocError> for AsmCause {
     }
 }
 
-impl<T: Drop> From<AllocFailed<T>> for AsmCause {
-    ghost from_gives = { λ _ cause. cause ≡ NoMemory };
+impl From<AsmCause> for WordFault {
+    ghost from_gives = { λ cause fault. fault ≡ cause };
 
-    fn from(_error: AllocFailed<T>) -> AsmCause {
-        AsmCause::NoMemory
+    fn from(cause: AsmCause) -> WordFault {
+        cause.alone()
+    }
+}
+
+impl From<AllocError> for WordFault {
+    ghost from_gives = { λ _ fault. fault ≡ NoMemory };
+
+    fn from(_error: AllocError) -> WordFault {
+        AsmCause::NoMemory.alone()
+    }
+}
+
+impl<T: Drop> From<AllocFailed<T>> for WordFault {
+    ghost from_gives = { λ _ fault. fault ≡ NoMemory };
+
+    fn from(_error: AllocFailed<T>) -> WordFault {
+        AsmCause::NoMemory.alone()
     }
 }

@@ -8,9 +8,9 @@ ghost use Rattle.zl_code.specs.Instructions.{row_value};
 ghost use Rattle.zl_code.specs.Limits.{most_registers};
 
 use crate::directive::{Directive, directive_of};
-use crate::fault::AsmCause;
+use crate::fault::{AsmCause, WordFault};
 use crate::numbers::{is_name, sixteen_bytes};
-use crate::operands::{misfit, source_of, split_operands};
+use crate::operands::{misfit, source_of, split_operands, unparted};
 use crate::words::is;
 use zl_code::{Instr, Row, Version};
 
@@ -37,7 +37,7 @@ pub(crate) fn line_of<'a>(
     version: Version,
     words: &[&'a [u8]],
     operands: &mut Vec<&'a [u8]>,
-) -> Result<Line<'a>, AsmCause>
+) -> Result<Line<'a>, WordFault>
     ensures ok { IfOk result (λ line. line_of version (texts words.now) ≡ Some (line_value line)) }
     ensures err { OnRefusal result (line_of version (texts words.now) ≡ None) }
 {
@@ -54,7 +54,7 @@ fn point_line<'a>(
     version: Version,
     name: &[u8],
     operands: &[&'a [u8]],
-) -> Result<Line<'a>, AsmCause>
+) -> Result<Line<'a>, WordFault>
     ensures { option_map line_value (result_ok result) ≡ point_line version name.now (texts operands.now) }
 {
     if is(name, b".bytes") {
@@ -66,15 +66,15 @@ fn point_line<'a>(
 
 /// The instruction of these operands with an opcode that the version doesn't know.
 #[tactic(auto, unfolding(crate::specs::Lines::unknown_of))]
-fn unknown_of<'a>(version: Version, operands: &[&'a [u8]]) -> Result<Source<'a>, AsmCause>
+fn unknown_of<'a>(version: Version, operands: &[&'a [u8]]) -> Result<Source<'a>, WordFault>
     ensures { option_map source_value (result_ok result) ≡ unknown_of version (texts operands.now) }
 {
     let [digits] = operands else {
-        return Err(AsmCause::Operand);
+        return Err(AsmCause::Operand.alone());
     };
     match sixteen_bytes(digits) {
         Some(bytes) if Row::at(version, bytes[0]).is_none() => Ok(Source { bytes, label: None }),
-        _ => Err(misfit(digits, AsmCause::Operand)),
+        _ => Err(misfit(1, digits, AsmCause::Operand)),
     }
 }
 
@@ -110,14 +110,23 @@ fn instruction_of<'a>(
     name: &[u8],
     words: &[&'a [u8]],
     operands: &mut Vec<&'a [u8]>,
-) -> Result<Source<'a>, AsmCause>
+) -> Result<Source<'a>, WordFault>
     ensures ok { IfOk result (λ source.
         instruction_of version name.now (texts words.now) ≡ Some (source_value source)) }
     ensures err { OnRefusal result (instruction_of version name.now (texts words.now) ≡ None) }
 {
     let Some(row) = row_by(version, name) else {
-        return Err(misfit(name, AsmCause::UnknownName));
+        return Err(misnamed(name, words));
     };
     split_operands(operands, words)?;
     source_of(&row, operands)
+}
+
+/// The fault of a name that no instruction has, in front of these words; a comma is no name.
+fn misnamed(name: &[u8], words: &[&[u8]]) -> WordFault {
+    if is(name, b",") {
+        unparted(words)
+    } else {
+        misfit(0, name, AsmCause::UnknownName)
+    }
 }

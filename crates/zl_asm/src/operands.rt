@@ -10,7 +10,7 @@ ghost use Rattle.zl_asm.specs.Causes.{OnRefusal};
 ghost use Rattle.zl_code.specs.Instructions.{row_value};
 ghost use Rattle.zl_code.specs.Limits.{most_registers};
 
-use crate::fault::AsmCause;
+use crate::fault::{AsmCause, WordFault};
 use crate::line::Source;
 use crate::numbers::{is_name, number, register};
 use crate::words::is;
@@ -28,7 +28,7 @@ pub(crate) struct Tail<'a> {
 pub(crate) fn split_operands<'a>(
     operands: &mut Vec<&'a [u8]>,
     words: &[&'a [u8]],
-) -> Result<(), AsmCause>
+) -> Result<(), WordFault>
     ensures ok { OnOk result (operands_of (texts words.now) ≡ Some (texts operands.new.items)) }
     ensures err { OnRefusal result (operands_of (texts words.now) ≡ None) }
 {
@@ -39,7 +39,7 @@ pub(crate) fn split_operands<'a>(
     let mut rest = words;
     while let [word, comma, more @ ..] = rest {
         if is(word, b",") || !is(comma, b",") {
-            return Err(AsmCause::Token);
+            return Err(unparted(words));
         }
         operands.push(word)?;
         rest = more;
@@ -49,19 +49,36 @@ pub(crate) fn split_operands<'a>(
             operands.push(word)?;
             Ok(())
         }
-        _ => Err(AsmCause::Token),
+        _ => Err(unparted(words)),
     }
 }
 
-/// The number of the operand.
-pub(crate) fn number_operand(word: &[u8]) -> Result<u32, AsmCause>
-    ensures { result_ok result ≡ number_of word.now }
-{
-    number(word).ok_or_else(|| misfit(word, AsmCause::Operand))
+/// The fault of words between which the commas don't stand as they have to: the first word that isn't
+/// one of the grammar, or else the first of a comma and an operand that stands in the other's place.
+pub(crate) fn unparted(words: &[&[u8]]) -> WordFault {
+    let odd = words
+        .iter()
+        .position(|word| is_odd(word) && !is(word, b","));
+    let displaced = words
+        .iter()
+        .enumerate()
+        .position(|(place, word)| is(word, b",") == (place % 2 == 0));
+    match odd.or(displaced) {
+        Some(place) => AsmCause::Token.at(place.saturating_add(1)),
+        None => AsmCause::Token.alone(),
+    }
 }
 
-/// Puts the registers of the words into the first places.
-fn put_registers(places: &mut [u8], words: &[&[u8]]) -> Result<(), AsmCause>
+/// The number of the operand, the word in this place of its line.
+pub(crate) fn number_operand(place: usize, word: &[u8]) -> Result<u32, WordFault>
+    ensures { result_ok result ≡ number_of word.now }
+{
+    number(word).ok_or_else(|| misfit(place, word, AsmCause::Operand))
+}
+
+/// Puts the registers of the words into the first places. The first of them is this word of its line,
+/// and a comma stands in front of each other.
+fn put_registers(places: &mut [u8], first: usize, words: &[&[u8]]) -> Result<(), WordFault>
     requires { length words.now ≤ length places.old }
     ensures { option_map (λ _. places.new) (result_ok result) ≡ option_map
         (λ registers. registers ++ drop (length registers) places.old)
@@ -69,25 +86,29 @@ fn put_registers(places: &mut [u8], words: &[&[u8]]) -> Result<(), AsmCause>
 {
     for (i, word) in words.iter().enumerate() {
         let Some(register) = register(word) else {
-            return Err(misfit(word, AsmCause::Operand));
+            let place = first.saturating_add(i.saturating_mul(2));
+            return Err(misfit(place, word, AsmCause::Operand));
         };
         places[i] = register;
     }
     Ok(())
 }
 
-/// The cause of a word that stands where it doesn't fit: `Token`, if it has a byte that no word of
-/// the grammar has.
-pub(crate) fn misfit(word: &[u8], cause: AsmCause) -> AsmCause {
+/// The fault of a word that doesn't fit in this place of its line: `Token`, if it isn't one of the grammar.
+pub(crate) fn misfit(place: usize, word: &[u8], cause: AsmCause) -> WordFault {
+    if is_odd(word) {
+        AsmCause::Token.at(place)
+    } else {
+        cause.at(place)
+    }
+}
+
+/// Whether the word has a byte that no word of the grammar has.
+pub(crate) fn is_odd(word: &[u8]) -> bool {
     let rest = word.strip_prefix(b".").unwrap_or(word);
-    if rest
+    !rest
         .iter()
         .all(|byte| byte.is_ascii_alphanumeric() || *byte == b'_')
-    {
-        cause
-    } else {
-        AsmCause::Token
-    }
 }
 
 /// The last eight bytes with a number and a target.
@@ -99,43 +120,49 @@ fn tail_with<'a>(number: u32, target: u32, label: Option<&'a [u8]>) -> Tail<'a>
     Tail { bytes, label }
 }
 
-/// The last eight bytes with a number and a target, which is a number or the name of a label.
-fn tail_to<'a>(number: u32, target: &'a [u8]) -> Result<Tail<'a>, AsmCause>
+/// The last eight bytes with a number and a target, which is a number or the name of a label, in this
+/// place of its line.
+fn tail_to<'a>(number: u32, place: usize, target: &'a [u8]) -> Result<Tail<'a>, WordFault>
     ensures { option_map tail_value (result_ok result) ≡ tail_to number target.now }
 {
     if is_name(target) {
         Ok(tail_with(number, 0, Some(target)))
     } else {
-        Ok(tail_with(number, number_operand(target)?, None))
+        Ok(tail_with(number, number_operand(place, target)?, None))
     }
 }
 
-/// The last eight bytes with the registers of at most eight handles.
-fn handles<'a>(words: &[&'a [u8]]) -> Result<Tail<'a>, AsmCause>
+/// The last eight bytes with the registers of at most eight handles, of which the first is this word of
+/// its line.
+fn handles<'a>(first: usize, words: &[&'a [u8]]) -> Result<Tail<'a>, WordFault>
     ensures { option_map tail_value (result_ok result) ≡ tail_of ending.Handles (texts words.now) }
 {
     if words.len() > HandleList::MOST {
-        return Err(AsmCause::Operand);
+        return Err(AsmCause::Operand.alone());
     }
     let mut bytes = [HandleList::NONE; HandleList::MOST];
-    put_registers(&mut bytes, words)?;
+    put_registers(&mut bytes, first, words)?;
     Ok(Tail { bytes, label: None })
 }
 
-/// The last eight bytes by the operands behind the registers.
+/// The last eight bytes by the operands behind the registers, of which the first is this word of its line.
 #[tactic(auto, unfolding(crate::specs::Lines::tail_of))]
-fn tail_of<'a>(ending: Ending, operands: &[&'a [u8]]) -> Result<Tail<'a>, AsmCause>
+fn tail_of<'a>(ending: Ending, first: usize, operands: &[&'a [u8]]) -> Result<Tail<'a>, WordFault>
     ensures { option_map tail_value (result_ok result) ≡ tail_of ending (texts operands.now) }
 {
     match (ending, operands) {
         (Ending::Nothing, []) => Ok(tail_with(0, 0, None)),
         (Ending::Number | Ending::Room | Ending::FromSlots | Ending::IntoSlots, [imm]) => {
-            Ok(tail_with(number_operand(imm)?, 0, None))
+            Ok(tail_with(number_operand(first, imm)?, 0, None))
         }
-        (Ending::Target, [target]) => tail_to(0, target),
-        (Ending::Both, [imm, target]) => tail_to(number_operand(imm)?, target),
-        (Ending::Handles, registers) => handles(registers),
-        _ => Err(AsmCause::Operand),
+        (Ending::Target, [target]) => tail_to(0, first, target),
+        (Ending::Both, [imm, target]) => tail_to(
+            number_operand(first, imm)?,
+            first.saturating_add(2),
+            target,
+        ),
+        (Ending::Handles, registers) => handles(first, registers),
+        _ => Err(AsmCause::Operand.alone()),
     }
 }
 
@@ -155,19 +182,19 @@ pub(crate) fn written(row: &Row) -> Ending
 
 /// The instruction of the row with these operands, its registers first.
 #[tactic(auto, unfolding(crate::specs::Lines::source_of))]
-pub(crate) fn source_of<'a>(row: &Row, operands: &[&'a [u8]]) -> Result<Source<'a>, AsmCause>
+pub(crate) fn source_of<'a>(row: &Row, operands: &[&'a [u8]]) -> Result<Source<'a>, WordFault>
     requires { length row.now.columns.now.fields.now ≤ most_registers }
     ensures { option_map source_value (result_ok result)
         ≡ source_of (row_value row.now) (texts operands.now) }
 {
     let count = row.registers();
     if operands.len() < count {
-        return Err(AsmCause::Operand);
+        return Err(AsmCause::Operand.alone());
     }
     let (registers, rest) = operands.split_at(count);
     let mut places = [0; InstrBytes::REGISTERS];
-    put_registers(&mut places, registers)?;
-    let tail = tail_of(written(row), rest)?;
+    put_registers(&mut places, 1, registers)?;
+    let tail = tail_of(written(row), 2 * count + 1, rest)?;
     let last = tail.bytes;
     let parts = InstrBytes {
         opcode: row.opcode,

@@ -86,6 +86,10 @@ slot_in_range-read bytes s there size allowed =
 
 -- ---- faults
 
+never : (b : Bool) → (b && false) ≡ false
+never true = refl
+never false = refl
+
 pub start_fault-by : (bytes : List ℕ) (zero there : Bool) → list_all (λ b. b == 0) (take 3 (drop 1 bytes)) ≡ zero → has_rights bytes ≡ there
     → start_fault bytes ≡ then_some (not (zero && there)) faults.BadHeader
 unfolding start_fault
@@ -94,6 +98,11 @@ start_fault-by bytes zero there h e = λ i. then_some (not (h i && e i)) faults.
 pub start_fault-zero : (bytes : List ℕ) → list_all (λ b. b == 0) (take 3 (drop 1 bytes)) ≡ false → start_fault bytes ≡ Some faults.BadHeader
 start_fault-zero bytes h = start_fault-by bytes false _ h refl
 
+pub start_fault-rights : (bytes : List ℕ) → has_rights bytes ≡ false → start_fault bytes ≡ Some faults.BadHeader
+start_fault-rights bytes h =
+    let zero = list_all (λ b. b == 0) (take 3 (drop 1 bytes)) in
+    start_fault-by bytes zero false refl h ∙ ap (λ b. then_some (not b) faults.BadHeader) (never zero)
+
 pub slot_fault-by : (bytes : List ℕ) (long there : Bool) → has_length bytes ≡ long → has_rights bytes ≡ there
     → slot_fault bytes ≡ then_some (not (long && there)) faults.BadHeader
 unfolding slot_fault
@@ -101,6 +110,10 @@ slot_fault-by bytes long there h e = λ i. then_some (not (h i && e i)) faults.B
 
 pub slot_fault-length : (bytes : List ℕ) → has_length bytes ≡ false → slot_fault bytes ≡ Some faults.BadHeader
 slot_fault-length bytes h = slot_fault-by bytes false _ h refl
+
+pub slot_fault-rights : (bytes : List ℕ) → has_rights bytes ≡ false → slot_fault bytes ≡ Some faults.BadHeader
+slot_fault-rights bytes h =
+    slot_fault-by bytes (has_length bytes) false refl h ∙ ap (λ b. then_some (not b) faults.BadHeader) (never (has_length bytes))
 
 -- ---- what is spelled is read again
 

@@ -8,14 +8,9 @@ ghost use Rattle.zl_code.specs.Lists.{at};
 ghost use Rattle.zl_code.specs.Blocks.{mark_of, marks_of, is_rep_to, is_end_of, nests, are_blocks, all_nest, all_stay, is_flat, is_plain};
 ghost use Rattle.zl_code.specs.Blocks.{AreHomes, AreWalked, deeper, home_behind, is_same_home, stays_by};
 
+use crate::image::Image;
 use crate::instr::{Instr, LocalInstr};
 use std::alloc::{AllocError, Global};
-
-/// The most times that a block is gone round.
-const MOST_TURNS: u32 = 1_000_000;
-
-/// The most blocks that an instruction is in.
-const MOST_BLOCKS: usize = 4;
 
 /// What an instruction is to counted blocks. Own profile.
 #[derive(Clone, Copy)]
@@ -93,7 +88,10 @@ fn nests(code: &[Instr], place: usize, mark: Mark, depth: usize, home: Option<u3
     match mark {
         Mark::Plain => true,
         Mark::Rep { imm, end } => {
-            0 < imm && imm <= MOST_TURNS && depth < MOST_BLOCKS && is_end_of(code, end, place)
+            0 < imm
+                && imm <= Image::MOST_TURNS
+                && depth < Image::MOST_BLOCKS
+                && is_end_of(code, end, place)
         }
         Mark::EndRep { rep } => match home {
             Some(open) => open == rep && is_rep_to(code, rep, place),

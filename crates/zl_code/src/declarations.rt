@@ -9,15 +9,15 @@ ghost use Rattle.zl_rights.specs.Numbers.{bits, within};
 ghost use Rattle.zl_code.specs.declared.image.DecodeFault.TheVariants as faults;
 ghost use Rattle.zl_code.specs.Spells.{number_at, kind_byte, kind_at, rights_allowed, has_rights, has_length, start_bytes, slot_bytes, is_start_in_range, is_slot_in_range, start_fault, slot_fault};
 
-use crate::encoding::DECLARATION_LEN;
-use crate::image::{DecodeFault, SlotArray, Start};
+use crate::image::{DecodeFault, Image, SlotArray, Start};
+use crate::undecoded::Undecoded;
 use bitflags::Flags;
 use std::alloc::Global;
 use zl_rights::{Kind, Rights};
 
 /// The kind of the byte, where 0 is any kind.
 #[tactic(auto, using(crate::proofs::ImageDeclared::kind_at_none))]
-fn kind_of(byte: u8) -> Result<Option<Kind>, DecodeFault>
+fn kind_of(byte: u8) -> Result<Option<Kind>, Undecoded>
     ensures byte { IfOk result (λ kind. kind_byte kind ≡ byte) }
     ensures ok { IfOk result (λ kind. kind_at byte ≡ Some kind) }
     ensures err { IfErr result (λ fault. (fault ≡ faults.BadHeader) × (kind_at byte ≡ None)) }
@@ -27,7 +27,7 @@ fn kind_of(byte: u8) -> Result<Option<Kind>, DecodeFault>
     }
     match Kind::from_number(u32::from(byte)) {
         Some(kind) => Ok(Some(kind)),
-        None => Err(DecodeFault::BadHeader),
+        None => Err(DecodeFault::BadHeader.at(0)),
     }
 }
 
@@ -48,55 +48,33 @@ fn is_allowed(kind: Option<Kind>, rights: Rights) -> bool
     rights.within(rights_allowed(kind))
 }
 
-/// The rights of this number, if the kind allows them.
-fn rights_of(kind: Option<Kind>, number: u32) -> Result<Rights, DecodeFault>
-    ensures value { IfOk result (λ rights. bits rights ≡ number) }
-    ensures ok { OnOk result (within number (rights_allowed kind) ≡ true) }
+/// The rights in the last four of the eight bytes, if the kind allows them.
+fn rights_of(kind: Option<Kind>, bytes: [u8; Image::DECLARATION_LEN]) -> Result<Rights, Undecoded>
+    ensures value { IfOk result (λ rights. bits rights ≡ number_at bytes 4 4) }
+    ensures ok { OnOk result (within (number_at bytes 4 4) (rights_allowed kind) ≡ true) }
     ensures err { IfErr result (λ fault.
-        (fault ≡ faults.BadHeader) × (within number (rights_allowed kind) ≡ false)) }
+        (fault ≡ faults.BadHeader) × (within (number_at bytes 4 4) (rights_allowed kind) ≡ false)) }
 {
-    let rights = Rights::from_bits_retain(number);
+    let [_, _, _, _, r0, r1, r2, r3] = bytes;
+    let rights = Rights::from_bits_retain(u32::from_le_bytes([r0, r1, r2, r3]));
     if is_allowed(kind, rights) {
         Ok(rights)
     } else {
-        Err(DecodeFault::BadHeader)
+        Err(DecodeFault::BadHeader.at(4))
     }
 }
 
-/// What both declarations have: a kind in the first byte, and rights in the last four.
-#[derive(Clone, Copy)]
-struct Declared {
-    kind: Option<Kind>,
-    rights: Rights,
-}
-
-/// The kind and the rights of the eight bytes.
-#[tactic(auto, using(crate::proofs::ImageDeclared::has_rights_allowed, crate::proofs::ImageDeclared::has_rights_none))]
-fn declared_of(bytes: [u8; DECLARATION_LEN]) -> Result<Declared, DecodeFault>
-    ensures kind { IfOk result (λ declared. kind_byte declared.kind ≡ slice_index bytes 0) }
-    ensures rights { IfOk result (λ declared. bits declared.rights ≡ number_at bytes 4 4) }
-    ensures allowed { IfOk result (λ declared.
-        within (bits declared.rights) (rights_allowed declared.kind) ≡ true) }
-    ensures ok { OnOk result (has_rights bytes ≡ true) }
-    ensures err { IfErr result (λ fault.
-        (fault ≡ faults.BadHeader) × (has_rights bytes ≡ false)) }
-{
-    let [kind, _, _, _, r0, r1, r2, r3] = bytes;
-    let kind = kind_of(kind)?;
-    let rights = rights_of(kind, u32::from_le_bytes([r0, r1, r2, r3]))?;
-    Ok(Declared { kind, rights })
-}
-
 /// The start handle of the eight bytes.
-fn start_of(bytes: [u8; DECLARATION_LEN]) -> Result<Start, DecodeFault>
+fn start_of(bytes: [u8; Image::DECLARATION_LEN]) -> Result<Start, Undecoded>
     ensures bytes { IfOk result (λ start. start_bytes start ≡ bytes) }
     ensures in_range { IfOk result (λ start. IsTrue (is_start_in_range start)) }
     ensures fault { start_fault bytes ≡ result_err result }
 {
+    let kind = kind_of(bytes[0])?;
     if !is_all_zero(&bytes[1..4]) {
-        return Err(DecodeFault::BadHeader);
+        return Err(DecodeFault::BadHeader.at(1));
     }
-    let Declared { kind, rights } = declared_of(bytes)?;
+    let rights = rights_of(kind, bytes)?;
     Ok(Start { kind, rights })
 }
 
@@ -133,29 +111,31 @@ impl SlotArray {
 }
 
 /// The length in the third and the fourth byte, if it is one of a slot array and the second byte is 0.
-fn length_of(bytes: [u8; DECLARATION_LEN]) -> Option<u16>
-    ensures found { IfSome result (λ length. length ≡ number_at bytes 2 2) }
-    ensures some { OnSome result (has_length bytes ≡ true) }
-    ensures none { IfNone result (has_length bytes ≡ false) }
+fn length_of(bytes: [u8; Image::DECLARATION_LEN]) -> Result<u16, Undecoded>
+    ensures found { IfOk result (λ length. length ≡ number_at bytes 2 2) }
+    ensures ok { OnOk result (has_length bytes ≡ true) }
+    ensures err { IfErr result (λ fault.
+        (fault ≡ faults.BadHeader) × (has_length bytes ≡ false)) }
 {
     let length = u16::from_le_bytes([bytes[2], bytes[3]]);
-    if bytes[1] == 0 && is_slot_array_length(length) {
-        Some(length)
+    if !is_slot_array_length(length) {
+        Err(DecodeFault::BadHeader.at(2))
+    } else if bytes[1] != 0 {
+        Err(DecodeFault::BadHeader.at(1))
     } else {
-        None
+        Ok(length)
     }
 }
 
 /// The slot array of the eight bytes.
-fn slot_array_of(bytes: [u8; DECLARATION_LEN]) -> Result<SlotArray, DecodeFault>
+fn slot_array_of(bytes: [u8; Image::DECLARATION_LEN]) -> Result<SlotArray, Undecoded>
     ensures bytes { IfOk result (λ array. slot_bytes array ≡ bytes) }
     ensures in_range { IfOk result (λ array. IsTrue (is_slot_in_range array)) }
     ensures fault { slot_fault bytes ≡ result_err result }
 {
-    let Some(length) = length_of(bytes) else {
-        return Err(DecodeFault::BadHeader);
-    };
-    let Declared { kind, rights } = declared_of(bytes)?;
+    let kind = kind_of(bytes[0])?;
+    let length = length_of(bytes)?;
+    let rights = rights_of(kind, bytes)?;
     Ok(SlotArray {
         kind,
         length,
@@ -163,11 +143,12 @@ fn slot_array_of(bytes: [u8; DECLARATION_LEN]) -> Result<SlotArray, DecodeFault>
     })
 }
 
-/// The start handles of the pieces, in order.
+/// The start handles of the pieces, in order, which begin at the offset.
 pub(crate) fn starts_of(
     alloc: Global,
-    pieces: &[[u8; DECLARATION_LEN]],
-) -> Result<Vec<Start>, DecodeFault>
+    offset: usize,
+    pieces: &[[u8; Image::DECLARATION_LEN]],
+) -> Result<Vec<Start>, Undecoded>
     ensures bytes { IfOk result (λ starts. map start_bytes starts.items ≡ pieces.now) }
     ensures in_range { IfOk result (λ starts. IsTrue (list_all is_start_in_range starts.items)) }
     ensures none { OnOk result (first_some (map start_fault pieces.now) ≡ None) }
@@ -176,17 +157,20 @@ pub(crate) fn starts_of(
 {
     let mut starts = Vec::with_capacity(alloc, pieces.len())?;
     for piece in pieces {
-        let start = start_of(*piece)?;
-        starts.push(start)?;
+        match start_of(*piece) {
+            Ok(start) => starts.push(start)?,
+            Err(fault) => return Err(fault.in_piece(offset, starts.len(), Image::DECLARATION_LEN)),
+        }
     }
     Ok(starts)
 }
 
-/// The slot arrays of the pieces, in order.
+/// The slot arrays of the pieces, in order, which begin at the offset.
 pub(crate) fn slots_of(
     alloc: Global,
-    pieces: &[[u8; DECLARATION_LEN]],
-) -> Result<Vec<SlotArray>, DecodeFault>
+    offset: usize,
+    pieces: &[[u8; Image::DECLARATION_LEN]],
+) -> Result<Vec<SlotArray>, Undecoded>
     ensures bytes { IfOk result (λ slots. map slot_bytes slots.items ≡ pieces.now) }
     ensures in_range { IfOk result (λ slots. IsTrue (list_all is_slot_in_range slots.items)) }
     ensures none { OnOk result (first_some (map slot_fault pieces.now) ≡ None) }
@@ -195,8 +179,10 @@ pub(crate) fn slots_of(
 {
     let mut slots = Vec::with_capacity(alloc, pieces.len())?;
     for piece in pieces {
-        let array = slot_array_of(*piece)?;
-        slots.push(array)?;
+        match slot_array_of(*piece) {
+            Ok(array) => slots.push(array)?,
+            Err(fault) => return Err(fault.in_piece(offset, slots.len(), Image::DECLARATION_LEN)),
+        }
     }
     Ok(slots)
 }

@@ -11,12 +11,6 @@ use bitflags::Flags;
 use std::alloc::{AllocError, Global};
 use zl_rights::Kind;
 
-/// How many bytes the header has.
-pub(crate) const HEADER_LEN: usize = 20;
-
-/// How many bytes a declaration has.
-pub(crate) const DECLARATION_LEN: usize = 8;
-
 /// The first bytes of an image.
 pub(crate) const MAGIC: [u8; 4] = [0x5a, 0x4c, 0x41, 0x42];
 
@@ -141,7 +135,7 @@ fn put_declarations(
 /// How many bytes the image has.
 fn len_of(image: &Image) -> usize {
     let declarations = image.starts.len() + image.slots.len();
-    HEADER_LEN + DECLARATION_LEN * declarations + Instr::LEN * image.code.len()
+    Image::HEADER_LEN + Image::DECLARATION_LEN * declarations + Instr::LEN * image.code.len()
 }
 
 /// The bytes of the image, as `decode` reads them. The error says that memory was refused. The

@@ -4,11 +4,9 @@ ghost use Rattle.std.specs.Prelude.{slice_get};
 ghost use Rattle.zl_code.specs.Blocks.{is_flat, marks_of};
 ghost use Rattle.zl_code.specs.Image.{instr_at, local_at, call_at, is_among, can_be_needed, needs_value};
 ghost use Rattle.zl_code.specs.Spells.{is_in_range, version_number};
-ghost use Rattle.zl_code.specs.declared.image.DecodeFault.TheVariants.{NoMemory};
 
 use crate::blocks::{Mark, is_flat, mark_of};
 use crate::instr::{CallInstr, Instr, LocalInstr};
-use std::alloc::{AllocError, AllocFailed};
 use std::marker::Model;
 use zl_rights::{Condition, Kind, Rights};
 
@@ -152,6 +150,23 @@ impl Image {
     /// The most slot arrays.
     pub const MOST_SLOT_ARRAYS: usize = 8;
 
+    /// The most times that a block is gone round.
+    pub const MOST_TURNS: u32 = 1_000_000;
+
+    /// The most blocks that an instruction is in.
+    pub const MOST_BLOCKS: usize = 4;
+
+    /// How many bytes the header has.
+    pub const HEADER_LEN: usize = 20;
+
+    /// How many bytes a declaration has.
+    pub const DECLARATION_LEN: usize = 8;
+
+    /// The most bytes that an image has.
+    pub const MOST_BYTES: usize = Image::HEADER_LEN
+        + Image::DECLARATION_LEN * (Image::MOST_STARTS + Image::MOST_SLOT_ARRAYS)
+        + Instr::LEN * Image::MOST_INSTRUCTIONS;
+
     /// The version of the format of its bytes.
     pub fn version(&self) -> Version
         ensures { result ≡ self.now.version }
@@ -288,22 +303,6 @@ impl Image {
             Some(instr) => Some(mark_of(instr)),
             None => None,
         }
-    }
-}
-
-impl From<AllocError> for DecodeFault {
-    ghost from_gives = { λ _ fault. fault ≡ NoMemory };
-
-    fn from(_error: AllocError) -> DecodeFault {
-        DecodeFault::NoMemory
-    }
-}
-
-impl<T: Drop> From<AllocFailed<T>> for DecodeFault {
-    ghost from_gives = { λ _ fault. fault ≡ NoMemory };
-
-    fn from(_error: AllocFailed<T>) -> DecodeFault {
-        DecodeFault::NoMemory
     }
 }
 

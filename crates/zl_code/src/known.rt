@@ -10,12 +10,13 @@ ghost use Rattle.zl_code.specs.Instructions.{call_row, is_known, layout_at, layo
 ghost use Rattle.zl_code.specs.Spells.{are_registers, names_registers, is_unused_zero, row_bytes, local_bytes, local_parts, call_bytes, instr_bytes, is_local_in_range, is_call_in_range, is_instr_in_range, instr_fault};
 ghost use Rattle.zl_code.specs.Fields.{read_in};
 
-use crate::fields::{Fields, fields_of, is_unused_zero, names_registers};
+use crate::fields::{Fields, fields_of, missing_register, unused_field};
 use crate::history::CallName;
 use crate::image::{DecodeFault, Version};
 use crate::instr::{CallInstr, Instr, LocalInstr};
 use crate::layout::Row;
 use crate::rows::FIRST_CALL;
+use crate::undecoded::Undecoded;
 use std::alloc::Global;
 
 /// The instruction of a known opcode below 64.
@@ -206,7 +207,7 @@ fn known(version: Version, fields: Fields) -> Instr
 
 /// The instruction of 16 bytes with an opcode that the version doesn't know, which only the raw mark
 /// allows.
-fn unknown(version: Version, raw: bool, bytes: [u8; Instr::LEN]) -> Result<Instr, DecodeFault>
+fn unknown(version: Version, raw: bool, bytes: [u8; Instr::LEN]) -> Result<Instr, Undecoded>
     requires { layout_at version (slice_index bytes 0) ≡ None }
     ensures bytes { IfOk result (λ instr. instr_bytes instr ≡ bytes) }
     ensures in_range { IfOk result (λ instr. IsTrue (is_instr_in_range version raw instr)) }
@@ -215,7 +216,7 @@ fn unknown(version: Version, raw: bool, bytes: [u8; Instr::LEN]) -> Result<Instr
     if raw {
         Ok(Instr::Unknown(bytes))
     } else {
-        Err(DecodeFault::UnknownOp)
+        Err(DecodeFault::UnknownOp.at(0))
     }
 }
 
@@ -230,7 +231,7 @@ impl Instr {
         version: Version,
         raw: bool,
         bytes: [u8; Instr::LEN],
-    ) -> Result<Instr, DecodeFault>
+    ) -> Result<Instr, Undecoded>
         ensures bytes { IfOk result (λ instr. instr_bytes instr ≡ bytes) }
         ensures in_range { IfOk result (λ instr. IsTrue (is_instr_in_range version raw instr)) }
         ensures fault { instr_fault version raw bytes ≡ result_err result }
@@ -238,11 +239,11 @@ impl Instr {
         match Row::at(version, bytes[0]) {
             Some(row) => {
                 let fields = fields_of(bytes)?;
-                if !names_registers(row.columns.ending, &fields) {
-                    return Err(DecodeFault::BadRegister);
+                if let Some(place) = missing_register(row.columns.ending, &fields) {
+                    return Err(DecodeFault::BadRegister.at(place));
                 }
-                if !is_unused_zero(row, &fields) {
-                    return Err(DecodeFault::UnusedField);
+                if let Some(place) = unused_field(row, &fields) {
+                    return Err(DecodeFault::UnusedField.at(place));
                 }
                 Ok(known(version, fields))
             }
@@ -251,13 +252,14 @@ impl Instr {
     }
 }
 
-/// The instructions of the pieces, in order.
+/// The instructions of the pieces, in order, which begin at the offset.
 pub(crate) fn code_of(
     alloc: Global,
     version: Version,
     raw: bool,
+    offset: usize,
     pieces: &[[u8; Instr::LEN]],
-) -> Result<Vec<Instr>, DecodeFault>
+) -> Result<Vec<Instr>, Undecoded>
     ensures bytes { IfOk result (λ code. map instr_bytes code.items ≡ pieces.now) }
     ensures in_range { IfOk result (λ code. IsTrue (list_all (is_instr_in_range version raw) code.items)) }
     ensures none { OnOk result (first_some (map (instr_fault version raw) pieces.now) ≡ None) }
@@ -267,9 +269,11 @@ pub(crate) fn code_of(
 {
     let mut code = Vec::with_capacity(alloc, pieces.len())?;
     for piece in pieces {
-        let instr = Instr::from_bytes(version, raw, *piece)?;
-        // Not `push`, whose error would hand the instruction back.
-        code.extend_from_slice(&[instr])?;
+        match Instr::from_bytes(version, raw, *piece) {
+            // Not `push`, whose error would hand the instruction back.
+            Ok(instr) => code.extend_from_slice(&[instr])?,
+            Err(fault) => return Err(fault.in_piece(offset, code.len(), Instr::LEN)),
+        }
     }
     Ok(code)
 }

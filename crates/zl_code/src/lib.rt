@@ -28,6 +28,7 @@ mod layout;
 pub mod own_laws;
 mod register;
 mod rows;
+mod undecoded;
 mod upgrading;
 
 pub use blocks::{Mark, are_blocks};
@@ -40,4 +41,5 @@ pub use instr::{CallInstr, HandleList, Instr, LocalInstr};
 pub use instr_bytes::InstrBytes;
 pub use layout::{Columns, Ending, Field, Gives, Kinds, Row};
 pub use register::Register;
+pub use undecoded::Undecoded;
 pub use upgrading::{Kept, upgrade};

@@ -38,7 +38,7 @@ pub fn read_block(
     ensures unchanged { Keeps result draft.old draft.new }
 {
     if is_end(words) {
-        read_program(draft, alloc, body, checked)?;
+        read_program(draft, alloc, opened, body, checked)?;
         return Ok(Part::Statements);
     }
     body.push_line(line)?;
@@ -55,9 +55,15 @@ fn is_end(words: &[&[u8]]) -> bool
     }
 }
 
-/// Adds the program that the whole block gives.
+/// Adds the program that the whole block gives, which this line opens.
 #[tactic(auto, unfolding(crate::specs::Scenario::program_said))]
-fn read_program(draft: &mut Draft, alloc: Global, body: &Body, checked: bool) -> Result<(), Fault>
+fn read_program(
+    draft: &mut Draft,
+    alloc: Global,
+    opened: u64,
+    body: &Body,
+    checked: bool,
+) -> Result<(), Fault>
     ensures answer { Judges result (λ _. draft.new)
         (program_said draft.old checked (bytes_said body.now))
         (listed checked (bytes_said body.now)) }
@@ -66,9 +72,9 @@ fn read_program(draft: &mut Draft, alloc: Global, body: &Body, checked: bool) ->
     let image = body.image(alloc)?;
     let program = program_of(alloc, image, checked)?;
     if draft.programs() >= MOST_PROGRAMS {
-        return Err(Fault::Refused(Cause::Limit));
+        return Err(Fault::alone(Cause::Limit));
     }
-    draft.push_program(program)?;
+    draft.push_program(opened, program)?;
     Ok(())
 }
 

@@ -93,7 +93,7 @@ fn push_digits(digits: &mut Digits, line: &[u8]) -> Result<(), Fault>
     for byte in line {
         if *byte != b' ' {
             let Some(digit) = hex_digit(*byte) else {
-                return Err(Fault::Refused(Cause::Syntax));
+                return Err(Fault::alone(Cause::Syntax));
             };
             digits.push(digit)?;
         }
@@ -117,7 +117,7 @@ fn image_of_digits(alloc: Global, digits: &Digits) -> Result<Image, Fault>
     ensures in_range { IfOk result (λ image. IsTrue (is_in_range image)) }
 {
     let Some(bytes) = digits.bytes() else {
-        return Err(Fault::Refused(Cause::Syntax));
+        return Err(Fault::alone(Cause::Syntax));
     };
     decode_program(alloc, bytes)
 }
@@ -128,8 +128,10 @@ fn decode_program(alloc: Global, bytes: &[u8]) -> Result<Image, Fault>
 {
     match decode(alloc, bytes) {
         Ok(image) => Ok(image),
-        Err(DecodeFault::NoMemory) => Err(Fault::NoMemory),
-        Err(_) => Err(Fault::Refused(Cause::Program)),
+        Err(undecoded) => match undecoded.fault() {
+            DecodeFault::NoMemory => Err(Fault::NoMemory),
+            _ => Err(Fault::alone(Cause::Program)),
+        },
     }
 }
 
@@ -143,7 +145,7 @@ fn image_of_text(alloc: Global, text: &[u8]) -> Result<Image, Fault>
         Ok(image) => Ok(image),
         Err(fault) => Err(match fault.cause {
             AsmCause::NoMemory => Fault::NoMemory,
-            _ => Fault::Refused(Cause::Program),
+            _ => Fault::alone(Cause::Program),
         }),
     }
 }

@@ -41,6 +41,7 @@ impl Draft {
         Draft {
             scenario: Scenario {
                 library: Library::new(alloc),
+                program_lines: Vec::new(alloc),
                 boot: Boot {
                     statements: Vec::new(alloc),
                     limit: USUAL_LIMIT,
@@ -59,14 +60,15 @@ impl Draft {
         self.scenario.library.len()
     }
 
-    /// Adds the program, which is of this mark and this image.
-    pub fn push_program(&mut self, program: Program) -> Result<(), AllocError>
+    /// Adds the program, which is of this mark and this image, and whose block this line opens.
+    pub fn push_program(&mut self, opened: u64, program: Program) -> Result<(), AllocError>
         requires in_range { IsTrue (has_ranges (program_value program)) }
         requires accepted { AcceptsImage (program_value program).checked
             (program_value program).image }
         ensures { OnOk result (self.new ≡ with_program self.old (program_value program).checked
             (spelling (program_value program).image)) }
     {
+        self.scenario.program_lines.push(opened)?;
         self.scenario.library.push(program)?;
         Ok(())
     }

@@ -26,7 +26,7 @@ pub fn read_handles(alloc: Global, words: &[&[u8]]) -> Result<Option<Grants>, Al
 
 /// The handle that the word names: a koid, a colon, and rights.
 #[tactic(auto, unfolding(crate::specs::Handles::handle_of))]
-fn read_handle(word: &[u8]) -> Option<Grant>
+pub fn read_handle(word: &[u8]) -> Option<Grant>
     ensures { result ≡ handle_of word.now }
 {
     let colon = colon_in(word)?;

@@ -7,7 +7,7 @@ ghost use Rattle.zl_scenario.specs.Reads.{Reads, whole_at, whole_in};
 
 use crate::block::read_block;
 use crate::body::Body;
-use crate::cause::{Cause, LineFault};
+use crate::cause::{Cause, PlacedFault, WordFault};
 use crate::draft::Draft;
 use crate::fault::Fault;
 use crate::part::Part;
@@ -68,14 +68,13 @@ impl Reader {
     }
 
     /// The fault of a block that no line ends.
-    fn fault_at_end(&self) -> Option<LineFault>
+    fn fault_at_end(&self) -> Option<PlacedFault>
         ensures { result ≡ fault_at_end self.now.part }
     {
         match self.part {
-            Part::Block { opened, .. } => Some(LineFault {
-                line: opened,
-                cause: Cause::Syntax,
-            }),
+            Part::Block { opened, .. } => {
+                Some(WordFault::new(Cause::Syntax, None).in_line(opened))
+            }
             Part::Statements | Part::Schedule => None,
         }
     }
@@ -94,7 +93,7 @@ impl Reader {
         ensures unchanged { Keeps result self.old.said self.new.said }
     {
         if !is_ascii(line) {
-            return Err(Fault::Refused(Cause::Syntax));
+            return Err(Fault::alone(Cause::Syntax));
         }
         if is_comment(line) {
             return Ok(());
@@ -140,7 +139,7 @@ impl Reader {
         &mut self,
         alloc: Global,
         text: &[u8],
-    ) -> Result<Option<LineFault>, AllocError>
+    ) -> Result<Option<PlacedFault>, AllocError>
         ensures { IfOk result (λ fault. Reads 1 self.old (lines_of text.now)
             (record { said = self.new.said; fault = fault })) }
     {
@@ -150,12 +149,9 @@ impl Reader {
             let told = self.told_line(number);
             match self.read_line(alloc, number, line, &mut words) {
                 Ok(()) => {}
-                Err(Fault::Refused(cause)) => return Ok(Some(LineFault { line: told, cause })),
+                Err(Fault::Refused(fault)) => return Ok(Some(fault.in_line(told))),
                 Err(Fault::Unaccepted) => {
-                    return Ok(Some(LineFault {
-                        line: told,
-                        cause: Cause::Check,
-                    }));
+                    return Ok(Some(WordFault::new(Cause::Check, None).in_line(told)));
                 }
                 Err(Fault::NoMemory) => return Err(AllocError),
             }

@@ -4,7 +4,7 @@ ghost use Rattle.zl_scenario.specs.Scenario.{Reading as ReadingValue, IsInOrder,
 ghost use Rattle.zl_scenario.specs.Reading.{IsScenario, reading_value};
 ghost use Rattle.zl_scenario.specs.Reads.{IsRead, TextsAreReadOnce, TextsAreReadAsSaid};
 
-use crate::cause::LineFault;
+use crate::cause::PlacedFault;
 use crate::reader::Reader;
 use std::alloc::{AllocError, Global};
 use zl_code::Boot;
@@ -15,6 +15,8 @@ use zl_rights::Pid;
 #[derive(Drop)]
 pub struct Scenario {
     pub library: Library,
+    /// The number of the line that opens the block of each program. No clause speaks of it.
+    pub program_lines: Vec<u64>,
     pub boot: Boot,
     /// The number of the line of each statement, from 1.
     pub lines: Vec<u64>,
@@ -30,7 +32,7 @@ pub struct Reading {
     /// All that stands before the fault.
     pub scenario: Scenario,
     /// The first fault that reading alone finds; booting may find one in an earlier line.
-    pub fault: Option<LineFault>,
+    pub fault: Option<PlacedFault>,
 }
 
 /// Reads the scenario and the schedule up to the first fault. The error is a want of memory.

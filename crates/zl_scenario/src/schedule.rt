@@ -7,6 +7,7 @@ ghost use Rattle.zl_scenario.specs.Reading.{Tells, Keeps};
 use crate::cause::Cause;
 use crate::draft::Draft;
 use crate::fault::Fault;
+use crate::faulty::no_number;
 use crate::numbers::number;
 
 /// The most turns of a line.
@@ -22,7 +23,7 @@ pub fn read_turns(draft: &mut Draft, words: &[&[u8]]) -> Result<(), Fault>
     match words {
         [] => Ok(()),
         [pid, count] => read_pair(draft, pid, count),
-        _ => Err(Fault::Refused(Cause::Syntax)),
+        _ => Err(Fault::alone(Cause::Syntax)),
     }
 }
 
@@ -33,10 +34,10 @@ fn read_pair(draft: &mut Draft, pid: &[u8], count: &[u8]) -> Result<(), Fault>
     ensures unchanged { Keeps result draft.old draft.new }
 {
     let (Some(pid), Some(count)) = (number(pid), number(count)) else {
-        return Err(Fault::Refused(Cause::Syntax));
+        return Err(Fault::at(Cause::Syntax, no_number(&[pid, count], 0)));
     };
     if count > MOST_TURNS {
-        return Err(Fault::Refused(Cause::Syntax));
+        return Err(Fault::at(Cause::Syntax, Some(1)));
     }
     draft.push_turns(pid, count as u32)?;
     Ok(())

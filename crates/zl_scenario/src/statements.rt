@@ -13,6 +13,7 @@ use crate::body::{Body, Form};
 use crate::cause::Cause;
 use crate::draft::Draft;
 use crate::fault::Fault;
+use crate::faulty::{no_handle, no_number, no_opening, no_policy};
 use crate::handles::read_handles;
 use crate::numbers::number;
 use crate::part::Part;
@@ -51,7 +52,7 @@ pub fn read_statement(
         }
         [name, mark, form] => {
             let (Some(checked), Some(form)) = (mark_of(name, mark), form_of(form)) else {
-                return Err(Fault::Refused(Cause::Syntax));
+                return Err(Fault::at(Cause::Syntax, Some(no_opening(name, mark))));
             };
             body.open(form);
             Ok(Part::Block {
@@ -73,7 +74,7 @@ fn read_object(draft: &mut Draft, line: u64, name: &[u8]) -> Result<(), Fault>
     ensures unchanged { Keeps result draft.old draft.new }
 {
     let Some(statement) = object_named(name) else {
-        return Err(Fault::Refused(Cause::Syntax));
+        return Err(Fault::at(Cause::Syntax, Some(0)));
     };
     draft.push_statement(line, statement)?;
     Ok(())
@@ -104,7 +105,7 @@ fn read_long(
         read_process(draft, alloc, line, job, program, word, handles)?;
         return Ok(());
     }
-    Err(Fault::Refused(Cause::Syntax))
+    Err(Fault::at(Cause::Syntax, Some(0)))
 }
 
 /// Reads a line of a name and one number.
@@ -122,7 +123,7 @@ fn read_pair(draft: &mut Draft, line: u64, name: &[u8], value: &[u8]) -> Result<
         read_job(draft, line, value)?;
         return Ok(());
     }
-    Err(Fault::Refused(Cause::Syntax))
+    Err(Fault::at(Cause::Syntax, Some(0)))
 }
 
 /// Whether a line of this name, with these words behind its first four, is a policy.
@@ -204,13 +205,13 @@ fn read_process(
     ensures unchanged { Keeps result draft.old draft.new }
 {
     let (Some(job), Some(program), Some(word)) = (number(job), number(program), number(word)) else {
-        return Err(Fault::Refused(Cause::Syntax));
+        return Err(Fault::at(Cause::Syntax, no_number(&[job, program, word], 1)));
     };
     let Some(handles) = read_handles(alloc, handles)? else {
-        return Err(Fault::Refused(Cause::Syntax));
+        return Err(Fault::at(Cause::Syntax, no_handle(handles)));
     };
     if program >= draft.programs() as u64 {
-        return Err(Fault::Refused(Cause::Unknown));
+        return Err(Fault::at(Cause::Unknown, Some(2)));
     }
     let statement = Statement::Process {
         job,
@@ -229,7 +230,7 @@ fn read_job(draft: &mut Draft, line: u64, parent: &[u8]) -> Result<(), Fault>
     ensures unchanged { Keeps result draft.old draft.new }
 {
     let Some(parent) = number(parent) else {
-        return Err(Fault::Refused(Cause::Syntax));
+        return Err(Fault::at(Cause::Syntax, Some(1)));
     };
     draft.push_statement(line, Statement::Job { parent })?;
     Ok(())
@@ -253,7 +254,7 @@ fn read_policy(
         Condition::named(condition),
         action_named(action),
     ) else {
-        return Err(Fault::Refused(Cause::Syntax));
+        return Err(Fault::at(Cause::Syntax, Some(no_policy(job, condition))));
     };
     let statement = Statement::Policy {
         job,
@@ -286,10 +287,10 @@ fn read_limit(draft: &mut Draft, most: &[u8]) -> Result<(), Fault>
     ensures unchanged { Keeps result draft.old draft.new }
 {
     let Some(limit) = number(most) else {
-        return Err(Fault::Refused(Cause::Syntax));
+        return Err(Fault::at(Cause::Syntax, Some(1)));
     };
     if limit > Boot::MOST_ITEMS {
-        return Err(Fault::Refused(Cause::Limit));
+        return Err(Fault::at(Cause::Limit, Some(1)));
     }
     draft.set_limit(limit);
     Ok(())

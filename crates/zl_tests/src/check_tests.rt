@@ -129,7 +129,7 @@ fn is_accepted_at_last(alloc: Global, image: Image) -> bool {
 fn a_check_without_memory_gives_the_image_back(rt: HostRuntime) {
     match decode(rt.alloc(), &WAITS) {
         Ok(image) => assert!(rt; is_accepted_at_last(rt.alloc(), image)),
-        Err(fault) => assert_eq!(rt; fault, DecodeFault::NoMemory),
+        Err(undecoded) => assert_eq!(rt; undecoded.fault(), DecodeFault::NoMemory),
     }
 }
 

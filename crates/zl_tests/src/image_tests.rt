@@ -2,7 +2,7 @@
 
 use std::alloc::Global;
 use std::test::*;
-use zl_code::{Columns, DecodeFault, Ending, Image, Row, decode, encode, upgrade};
+use zl_code::{Columns, DecodeFault, Ending, Image, Row, Undecoded, decode, encode, upgrade};
 use zl_rights::Condition;
 
 /// A raw program of eight instructions, which makes an event, signals, duplicates and closes it, and
@@ -35,7 +35,7 @@ const DECLARED: [u8; 52] = [
 ];
 
 /// Whether the image that the bytes spell is spelled by them.
-fn is_spelled_again(alloc: Global, bytes: &[u8]) -> Result<bool, DecodeFault> {
+fn is_spelled_again(alloc: Global, bytes: &[u8]) -> Result<bool, Undecoded> {
     let image = decode(alloc, bytes)?;
     Ok(encode(alloc, &image)?.as_slice() == bytes)
 }
@@ -91,7 +91,7 @@ fn each_byte_changed(rt: HostRuntime) {
 }
 
 /// The image of `DECLARED` without its instruction, one thing after the other.
-fn declared_again(alloc: Global) -> Result<Vec<u8>, DecodeFault> {
+fn declared_again(alloc: Global) -> Result<Vec<u8>, Undecoded> {
     let declared = decode(alloc, &DECLARED)?;
     let mut image = Image::new(alloc);
     image.set_budget(100);
@@ -129,12 +129,12 @@ fn built_one_by_one(rt: HostRuntime) {
             expected[6] = 0;
             assert_eq!(rt; bytes.as_slice(), expected.as_slice());
         }
-        Err(fault) => assert_eq!(rt; fault, DecodeFault::NoMemory),
+        Err(undecoded) => assert_eq!(rt; undecoded.fault(), DecodeFault::NoMemory),
     }
 }
 
 /// What the bytes of an image of version 1 are in version 2, or the instruction that holds it back.
-fn upgraded(alloc: Global, bytes: &[u8]) -> Result<Result<Vec<u8>, usize>, DecodeFault> {
+fn upgraded(alloc: Global, bytes: &[u8]) -> Result<Result<Vec<u8>, usize>, Undecoded> {
     match upgrade(decode(alloc, bytes)?) {
         Ok(image) => Ok(Ok(encode(alloc, &image)?)),
         Err(kept) => Ok(Err(kept.at)),
@@ -188,6 +188,6 @@ fn rows_by_name(rt: HostRuntime) {
 fn refused_memory(rt: HostRuntime) {
     match is_spelled_again(rt.alloc(), &EIGHT_BYTES) {
         Ok(same) => assert!(rt; same),
-        Err(fault) => assert_eq!(rt; fault, DecodeFault::NoMemory),
+        Err(undecoded) => assert_eq!(rt; undecoded.fault(), DecodeFault::NoMemory),
     }
 }

@@ -14,8 +14,7 @@ use std::alloc::Global;
 use std::io::{Read, Write};
 use zl_asm::{AsmCause, AsmFault, assemble_bytes};
 use zl_code::encode;
-use zl_hints::{Page, add_page};
-use zl_program_hints::explain_program;
+use zl_explain::{Page, add_page, explain_program};
 use zl_trace::write_all;
 
 /// What a text leads to.
@@ -30,6 +29,7 @@ pub enum Assembled {
 const TOO_LONG: AsmFault = AsmFault {
     line: 0,
     cause: AsmCause::Limit,
+    word: None,
 };
 
 /// Reads the text of a program, and writes the bytes of the image that it denotes to `image`, or

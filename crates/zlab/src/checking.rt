@@ -10,8 +10,7 @@ use crate::text::push_refusal;
 use std::alloc::{AllocError, Global};
 use std::io::{Read, Write};
 use zl_code::{DecodeFault, Image, decode};
-use zl_hints::{Page, add_page, explain_refusal};
-use zl_program_hints::explain_image;
+use zl_explain::{Page, add_page, explain_image, explain_refusal};
 use zl_trace::write_all;
 use zl_verify::{RefusalCause, check};
 
@@ -65,10 +64,10 @@ fn finding_of(alloc: Global, front: &[u8], hints: &mut String) -> Result<Finding
 {
     match decode(alloc, front) {
         Ok(image) => verified(alloc, image, hints),
-        Err(fault) => match fault {
+        Err(undecoded) => match undecoded.fault() {
             DecodeFault::NoMemory => Err(EngineFault::NoMemory),
-            _ => {
-                explain_image(hints, front, fault);
+            fault => {
+                explain_image(hints, alloc, front, &undecoded);
                 add_page(hints, Page::Image);
                 Ok(Finding::Undecodable(fault))
             }

@@ -14,9 +14,9 @@ use crate::text::push_refusal;
 use std::alloc::Global;
 use std::io::{Read, Write};
 use zl_code::{BootCause, BootFault};
-use zl_hints::{STANDARD_INPUT, Source, explain_scenario};
+use zl_explain::{STANDARD_INPUT, Source, explain_scenario};
 use zl_rights::Pid;
-use zl_scenario::{Cause, LineFault, Reading, Scenario, read_scenario};
+use zl_scenario::{Cause, LineFault, PlacedFault, Reading, Scenario, read_scenario};
 use zl_sched::{End, System};
 use zl_trace::{empty_block, write_all};
 
@@ -67,8 +67,9 @@ pub(crate) fn answer_input<W: Write>(
     match input {
         Input::Text(text) => answer(alloc, writer, hints, source, text.as_slice()),
         Input::TooLong => {
-            let ended = write_refusal(alloc, writer, TOO_LONG);
-            explain_scenario(hints, alloc, source, &[], TOO_LONG);
+            let fault = TOO_LONG.alone();
+            let ended = write_refusal(alloc, writer, &fault);
+            explain_scenario(hints, alloc, source, &[], &fault);
             ended
         }
     }
@@ -84,7 +85,7 @@ pub const TOO_LONG: LineFault = LineFault {
 #[derive(Drop)]
 enum Booted {
     Runs(System, Vec<(Pid, u32)>),
-    Refused(LineFault),
+    Refused(PlacedFault),
 }
 
 fn answer<W: Write>(
@@ -117,8 +118,8 @@ fn answer<W: Write>(
             ended
         }
         Booted::Refused(fault) => {
-            let ended = write_refusal(alloc, writer, fault);
-            explain_scenario(hints, alloc, source, text, fault);
+            let ended = write_refusal(alloc, writer, &fault);
+            explain_scenario(hints, alloc, source, text, &fault);
             ended
         }
     }
@@ -149,7 +150,7 @@ fn boot(alloc: Global, text: &[u8]) -> Result<Booted, EngineFault>
 }
 
 /// The fault of the line of a statement, by the lines of all statements.
-pub fn fault_of_boot(lines: &[u64], refused: BootFault) -> Result<LineFault, EngineFault>
+pub fn fault_of_boot(lines: &[u64], refused: BootFault) -> Result<PlacedFault, EngineFault>
     ensures cause { IfOk result (λ fault. line_cause refused.cause ≡ Some fault.cause) }
     ensures line { IfOk result (λ fault.
         fault.line ≡ slice_index_or lines.now refused.statement 0) }
@@ -158,7 +159,7 @@ pub fn fault_of_boot(lines: &[u64], refused: BootFault) -> Result<LineFault, Eng
 {
     let cause = cause_of_boot(refused.cause)?;
     let line = lines.get(refused.statement).copied().unwrap_or(0);
-    Ok(LineFault { line, cause })
+    Ok(LineFault { line, cause }.alone())
 }
 
 fn cause_of_boot(cause: BootCause) -> Result<Cause, EngineFault>
@@ -180,16 +181,17 @@ fn cause_of_boot(cause: BootCause) -> Result<Cause, EngineFault>
 pub(crate) fn write_refusal<W: Write>(
     alloc: Global,
     writer: &mut W,
-    fault: LineFault,
+    fault: &PlacedFault,
 ) -> Result<Verdict, EngineFault>
     ensures verdict { IfOk result (λ verdict. verdict ≡ Verdict.Refused) }
     ensures ok { OnOk result (Appends (W.contents writer.old) (W.contents writer.new)
-        (refused_line fault.line (cause_name fault.cause))) }
+        (refused_line fault.now.line (cause_name fault.now.cause))) }
     ensures err { OnErr result (AppendsBeginning (W.contents writer.old) (W.contents writer.new)
-        (refused_line fault.line (cause_name fault.cause))) }
+        (refused_line fault.now.line (cause_name fault.now.cause))) }
     ensures fault { IfErr result (λ fault. fault ≢ EngineFault.Read) }
     ensures mixed { IfErr result (λ fault. fault ≢ EngineFault.Mixed) }
 {
+    let fault = fault.fault();
     let mut line = String::new(alloc);
     push_refusal(&mut line, fault.line, fault.cause.name())?;
     write_all(writer, line.as_bytes())?;

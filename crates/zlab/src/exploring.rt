@@ -13,8 +13,8 @@ use crate::input::{Input, read_input};
 use std::alloc::Global;
 use std::io::{Read, Write};
 use zl_calls::World;
-use zl_hints::{STANDARD_INPUT, explain_scenario};
-use zl_scenario::{LineFault, Reading, Scenario, read_scenario};
+use zl_explain::{STANDARD_INPUT, explain_scenario};
+use zl_scenario::{PlacedFault, Reading, Scenario, read_scenario};
 
 /// What a scenario leads to.
 #[derive(Drop)]
@@ -22,7 +22,7 @@ pub enum Begun {
     /// Its boot world, and how many items a trace may have.
     World(World, u64),
     /// The scenario has this fault.
-    Refused(LineFault),
+    Refused(PlacedFault),
 }
 
 /// Reads a scenario, whose schedule doesn't count, searches all orders of the turns of its processes, each
@@ -64,7 +64,7 @@ pub fn explore_engine<R: Read, W: Write, P: Progress>(
             explain_search(hints, &ended, worlds);
             ended
         }
-        Begun::Refused(fault) => write_refusal(alloc, writer, fault),
+        Begun::Refused(fault) => write_refusal(alloc, writer, &fault),
     }
 }
 
@@ -79,13 +79,14 @@ fn begin(alloc: Global, input: &Input, hints: &mut String) -> Result<Begun, Engi
         Input::Text(text) => {
             let begun = boot_world(alloc, text.as_slice())?;
             if let Begun::Refused(fault) = &begun {
-                explain_scenario(hints, alloc, STANDARD_INPUT, text.as_slice(), *fault);
+                explain_scenario(hints, alloc, STANDARD_INPUT, text.as_slice(), fault);
             }
             Ok(begun)
         }
         Input::TooLong => {
-            explain_scenario(hints, alloc, STANDARD_INPUT, &[], TOO_LONG);
-            Ok(Begun::Refused(TOO_LONG))
+            let fault = TOO_LONG.alone();
+            explain_scenario(hints, alloc, STANDARD_INPUT, &[], &fault);
+            Ok(Begun::Refused(fault))
         }
     }
 }

@@ -8,7 +8,7 @@ use crate::fault::{EngineFault, Verdict};
 use crate::input::{Input, MOST_INPUT, read_input};
 use std::alloc::{AllocError, Global};
 use std::io::{Read, Write};
-use zl_hints::Source;
+use zl_explain::Source;
 
 /// Does what `step_engine` does, with the scenario from one reader and the schedule from another.
 /// The input is the scenario, an end of its last line where it has none, a line `--`, and the

@@ -16,15 +16,15 @@ use std::alloc::{AllocError, Global};
 use std::io::{Read, Write};
 use zl_calls::World;
 use zl_code::TraceItem;
-use zl_hints::{LONE_SCENARIO, explain_scenario};
-use zl_scenario::{Cause, LineFault, Reading, Scenario, read_scenario};
+use zl_explain::{LONE_SCENARIO, explain_scenario};
+use zl_scenario::{Cause, LineFault, PlacedFault, Reading, Scenario, read_scenario};
 use zl_trace::{ReadFault, ReplayFault, read_bytes, replay, write_all};
 
 /// The most bytes of a trace.
 const MOST_TRACE: usize = 134_217_728;
 
 /// What a scenario and a trace lead to.
-#[derive(Clone, Copy)]
+#[derive(Drop)]
 pub enum Replayed {
     /// All items of the trace, so many, are a legal history.
     All(usize),
@@ -32,7 +32,7 @@ pub enum Replayed {
     /// has another item; or the item is one too many.
     Differs(usize),
     /// The scenario has this fault.
-    Refused(LineFault),
+    Refused(PlacedFault),
     /// The trace has it.
     RefusedTrace(LineFault),
 }
@@ -75,8 +75,8 @@ pub fn replay_engine<R: Read, T: Read, W: Write>(
     let input = read_input(alloc, scenario)?;
     let front = read_front(alloc, trace, MOST_TRACE + 1)?;
     let found = found_in(alloc, &input, front.as_slice(), hints)?;
-    write_found(alloc, line, found)?;
-    Ok(verdict_of(found))
+    write_found(alloc, line, &found)?;
+    Ok(verdict_of(&found))
 }
 
 /// What comes of the scenario that was read, and of the trace, where these are the first of its bytes.
@@ -94,21 +94,22 @@ fn found_in(
     match input {
         Input::Text(text) => {
             let found = compare(alloc, text.as_slice(), front)?;
-            explain(hints, alloc, text.as_slice(), front, found);
+            explain(hints, alloc, text.as_slice(), front, &found);
             Ok(found)
         }
         Input::TooLong => {
-            explain_scenario(hints, alloc, LONE_SCENARIO, &[], TOO_LONG);
-            Ok(Replayed::Refused(TOO_LONG))
+            let fault = TOO_LONG.alone();
+            explain_scenario(hints, alloc, LONE_SCENARIO, &[], &fault);
+            Ok(Replayed::Refused(fault))
         }
     }
 }
 
 /// Says why the items aren't all replayed, or that there are none.
-fn explain(hints: &mut String, alloc: Global, text: &[u8], front: &[u8], found: Replayed) {
+fn explain(hints: &mut String, alloc: Global, text: &[u8], front: &[u8], found: &Replayed) {
     match found {
-        Replayed::All(count) => explain_items(hints, count),
-        Replayed::Differs(number) => explain_difference(hints, alloc, text, front, number),
+        Replayed::All(count) => explain_items(hints, *count),
+        Replayed::Differs(number) => explain_difference(hints, alloc, text, front, *number),
         Replayed::Refused(fault) => explain_scenario(hints, alloc, LONE_SCENARIO, text, fault),
         Replayed::RefusedTrace(fault) => explain_line(hints, alloc, front, fault.line),
     }
@@ -123,15 +124,15 @@ fn compare(alloc: Global, text: &[u8], front: &[u8]) -> Result<Replayed, EngineF
 {
     let Reading { scenario, fault } = read_scenario(alloc, text)?;
     match alone(scenario.schedule_line, fault) {
-        Some(fault) => Ok(match statement_fault(alloc, scenario)? {
-            Some(earlier) => Replayed::Refused(earlier),
-            None => Replayed::Refused(fault),
-        }),
+        Some(fault) => match statement_fault(alloc, scenario)? {
+            Some(earlier) => return Ok(Replayed::Refused(earlier)),
+            None => return Ok(Replayed::Refused(fault)),
+        },
         None => match read_items(alloc, front)? {
-            Items::Faulty(fault) => Ok(match statement_fault(alloc, scenario)? {
-                Some(first) => Replayed::Refused(first),
-                None => Replayed::RefusedTrace(fault),
-            }),
+            Items::Faulty(fault) => match statement_fault(alloc, scenario)? {
+                Some(first) => return Ok(Replayed::Refused(first)),
+                None => return Ok(Replayed::RefusedTrace(fault)),
+            },
             Items::All(items) => replay_items(alloc, scenario, items.as_slice()),
         },
     }
@@ -139,14 +140,17 @@ fn compare(alloc: Global, text: &[u8], front: &[u8]) -> Result<Replayed, EngineF
 
 /// The fault of reading where the scenario stands alone: the line of a schedule, if there is one, which
 /// is before the other fault.
-pub(crate) fn alone(schedule_line: Option<u64>, fault: Option<LineFault>) -> Option<LineFault>
+pub(crate) fn alone(schedule_line: Option<u64>, fault: Option<PlacedFault>) -> Option<PlacedFault>
     ensures { result ≡ fault_where_alone schedule_line fault }
 {
     match schedule_line {
-        Some(line) => Some(LineFault {
-            line,
-            cause: Cause::Syntax,
-        }),
+        Some(line) => {
+            let fault = LineFault {
+                line,
+                cause: Cause::Syntax,
+            };
+            Some(fault.alone())
+        }
         None => fault,
     }
 }
@@ -155,7 +159,7 @@ pub(crate) fn alone(schedule_line: Option<u64>, fault: Option<LineFault>) -> Opt
 pub(crate) fn statement_fault(
     alloc: Global,
     scenario: Scenario,
-) -> Result<Option<LineFault>, EngineFault>
+) -> Result<Option<PlacedFault>, EngineFault>
     ensures found { IfOk result (λ found. IfSome found (IsStatementFault scenario.library
         scenario.boot.statements.items scenario.boot.limit scenario.lines.items)) }
     ensures none { IfOk result (λ found. IfNone found ((w : WorldValue)
@@ -219,8 +223,8 @@ fn replay_items(
 }
 
 /// How the engine ends.
-fn verdict_of(found: Replayed) -> Verdict
-    ensures { result ≡ ends found }
+fn verdict_of(found: &Replayed) -> Verdict
+    ensures { result ≡ ends found.now }
 {
     match found {
         Replayed::All(_) => Verdict::Done,
@@ -229,11 +233,11 @@ fn verdict_of(found: Replayed) -> Verdict
 }
 
 /// Writes the line of what was found.
-fn write_found<W: Write>(alloc: Global, writer: &mut W, found: Replayed) -> Result<(), EngineFault>
+fn write_found<W: Write>(alloc: Global, writer: &mut W, found: &Replayed) -> Result<(), EngineFault>
     ensures ok { OnOk result (Appends (W.contents writer.old) (W.contents writer.new)
-        (replayed_line found)) }
+        (replayed_line found.now)) }
     ensures err { OnErr result (AppendsBeginning (W.contents writer.old) (W.contents writer.new)
-        (replayed_line found)) }
+        (replayed_line found.now)) }
     ensures fault { IfErr result (λ fault. fault ≢ EngineFault.Read) }
 {
     let mut line = String::new(alloc);
@@ -243,13 +247,17 @@ fn write_found<W: Write>(alloc: Global, writer: &mut W, found: Replayed) -> Resu
 }
 
 /// Adds the line of what was found. Where memory is refused, a beginning of the line may stand there.
-fn push_found(text: &mut String, found: Replayed) -> Result<(), AllocError>
-    ensures { OnOk result (string_bytes text.new ≡ string_bytes text.old ++ replayed_line found) }
+fn push_found(text: &mut String, found: &Replayed) -> Result<(), AllocError>
+    ensures { OnOk result (string_bytes text.new ≡ string_bytes text.old
+        ++ replayed_line found.now) }
 {
     match found {
         Replayed::All(count) => write!(text, "replayed {count}\n"),
         Replayed::Differs(number) => write!(text, "differs {number}\n"),
-        Replayed::Refused(fault) => push_refusal(text, fault.line, fault.cause.name()),
+        Replayed::Refused(fault) => {
+            let fault = fault.fault();
+            push_refusal(text, fault.line, fault.cause.name())
+        }
         Replayed::RefusedTrace(fault) => {
             push_trace_refusal(text, fault.line, fault.cause.name())
         }

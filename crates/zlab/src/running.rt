@@ -14,9 +14,9 @@ use std::io::{Read, Write};
 use std::sync::Wait;
 use std::thread::Threads;
 use zl_code::Boot;
-use zl_hints::{LONE_SCENARIO, explain_scenario};
+use zl_explain::{LONE_SCENARIO, explain_scenario};
 use zl_pool::{Direct, RunEnd};
-use zl_scenario::{LineFault, Reading, Scenario, read_scenario};
+use zl_scenario::{PlacedFault, Reading, Scenario, read_scenario};
 use zl_sched::{End, System};
 use zl_trace::empty_block;
 
@@ -26,7 +26,7 @@ pub enum Started {
     /// Before its first step.
     Ready(System),
     /// The scenario has this fault.
-    Refused(LineFault),
+    Refused(PlacedFault),
 }
 
 /// Reads a scenario, in which a line `--` is a fault, runs it on so many worker threads, of which 0
@@ -71,7 +71,7 @@ pub fn run_engine<P: Threads + Wait + Sync, R: Read, W: Write>(
         Started::Ready(system) => {
             write_threads(rt, alloc, writer, hints, system, workers, burst)
         }
-        Started::Refused(fault) => write_refusal(alloc, writer, fault),
+        Started::Refused(fault) => write_refusal(alloc, writer, &fault),
     }
 }
 
@@ -94,14 +94,15 @@ fn start(
             match &started {
                 Started::Ready(_) => explain_nothing(hints, text.as_slice()),
                 Started::Refused(fault) => {
-                    explain_scenario(hints, alloc, LONE_SCENARIO, text.as_slice(), *fault)
+                    explain_scenario(hints, alloc, LONE_SCENARIO, text.as_slice(), fault)
                 }
             }
             Ok(started)
         }
         Input::TooLong => {
-            explain_scenario(hints, alloc, LONE_SCENARIO, &[], TOO_LONG);
-            Ok(Started::Refused(TOO_LONG))
+            let fault = TOO_LONG.alone();
+            explain_scenario(hints, alloc, LONE_SCENARIO, &[], &fault);
+            Ok(Started::Refused(fault))
         }
     }
 }

@@ -20,7 +20,7 @@ use std::rt::Files;
 use std::sync::Wait;
 use std::thread::Threads;
 use std::{fs, io};
-use zl_hints::{explain_failure, explain_opening};
+use zl_explain::{explain_failure, explain_opening};
 
 const INPUT: &str = "standard input";
 

@@ -2,7 +2,7 @@
 
 use std::io;
 use std::io::{Read, Write};
-use zl_hints::explain_failure;
+use zl_explain::explain_failure;
 
 /// A reader or a writer, the name that a person knows it by, and why its last call that failed did so.
 #[derive(Drop)]

@@ -3,38 +3,14 @@
 use std::alloc::{AllocError, Global};
 use zl_calls::World;
 use zl_code::{CallName, ProcState, TraceItem};
-use zl_hints::{Page, is_among, push_page};
+use zl_explain::{Nearest, Page, Told, Value, is_among, line_at, push_page, tell, words_of};
 use zl_lines::{is_comment, split_words};
-use zl_program_hints::Value::Number;
-use zl_program_hints::{Value, line_at, push_nearest, push_text, words_of};
-use zl_rights::Pid;
+use zl_rights::{Pid, Status};
 use zl_scenario::{Reading, Scenario, read_scenario};
 use zl_trace::{push_item, read_bytes, replay};
 
 /// The most items of a trace.
 const MOST_ITEMS: usize = 1_000_000;
-
-/// How a call ends, as an item says it.
-const OUTCOMES: [&str; 18] = [
-    "OK",
-    "NOT_SUPPORTED",
-    "NO_RESOURCES",
-    "NO_MEMORY",
-    "INVALID_ARGS",
-    "BAD_HANDLE",
-    "WRONG_TYPE",
-    "OUT_OF_RANGE",
-    "BUFFER_TOO_SMALL",
-    "BAD_STATE",
-    "TIMED_OUT",
-    "SHOULD_WAIT",
-    "PEER_CLOSED",
-    "NOT_FOUND",
-    "ALREADY_EXISTS",
-    "ACCESS_DENIED",
-    "blocked",
-    "ended",
-];
 
 /// Adds a line where so many items are none.
 pub fn explain_items(hints: &mut String, count: usize) {
@@ -63,7 +39,7 @@ fn push_difference(
     scenario: &[u8],
     trace: &[u8],
     number: usize,
-) -> Result<(), AllocError> {
+) -> Told {
     if number > MOST_ITEMS {
         return hints.push_str("zlab: a trace has 1000000 items at most");
     }
@@ -76,8 +52,7 @@ fn push_difference(
         return Err(AllocError);
     };
     let line = line_of_item(alloc, trace, number)?;
-    let values = [Number(number as u64), Number(line)];
-    push_text(hints, "zlab: item #, line # of the trace, is ", &values)?;
+    tell!(hints; "zlab: item #, line # of the trace, is ", number, line)?;
     push_words(hints, *item)?;
     let Some(mut world) = world_behind(alloc, scenario, before) else {
         return Err(AllocError);
@@ -86,7 +61,7 @@ fn push_difference(
 }
 
 /// Adds the page that helps, and the end of the line.
-fn push_end(hints: &mut String) -> Result<(), AllocError> {
+fn push_end(hints: &mut String) -> Told {
     push_page(hints, Page::Trace)?;
     hints.push_str("\n")
 }
@@ -108,7 +83,7 @@ fn line_of_item(alloc: Global, trace: &[u8], number: usize) -> Result<u64, Alloc
 }
 
 /// Adds the words of the item.
-fn push_words(hints: &mut String, item: TraceItem) -> Result<(), AllocError> {
+fn push_words(hints: &mut String, item: TraceItem) -> Told {
     push_item(hints, item)?;
     // the end of its line
     let _ = hints.pop();
@@ -123,7 +98,7 @@ fn world_behind(alloc: Global, scenario: &[u8], items: &[TraceItem]) -> Option<W
 }
 
 /// Adds which item the lab's own step has in place of this one, or why its process does nothing there.
-fn push_own(hints: &mut String, world: &mut World, item: TraceItem) -> Result<(), AllocError> {
+fn push_own(hints: &mut String, world: &mut World, item: TraceItem) -> Told {
     let (pid, most) = match item {
         TraceItem::Run { pid, count } => (pid, count),
         TraceItem::Call { pid, .. } | TraceItem::Stuck { pid } => (pid, 1),
@@ -145,7 +120,7 @@ fn push_own(hints: &mut String, world: &mut World, item: TraceItem) -> Result<()
 }
 
 /// Adds what the process is in, which isn't ready.
-fn push_unready(hints: &mut String, world: &World, pid: Pid) -> Result<(), AllocError> {
+fn push_unready(hints: &mut String, world: &World, pid: Pid) -> Told {
     let text = match world.state_of(pid) {
         ProcState::Blocked => "; process # isn't ready there: it is blocked",
         ProcState::Ended(_) => "; process # isn't ready there: it has ended",
@@ -153,7 +128,7 @@ fn push_unready(hints: &mut String, world: &World, pid: Pid) -> Result<(), Alloc
         _ if world.cpu_of(pid).is_none() => "; nobody is # there",
         _ => "; process # isn't ready there: it is gone",
     };
-    push_text(hints, text, &[Number(pid)])
+    tell!(hints; text, pid)
 }
 
 /// Adds a line that says why the trace is refused at the line of this number, or as a whole for 0.
@@ -164,22 +139,16 @@ pub fn explain_line(hints: &mut String, alloc: Global, trace: &[u8], number: u64
     }
 }
 
-fn push_line(
-    hints: &mut String,
-    alloc: Global,
-    trace: &[u8],
-    number: u64,
-) -> Result<(), AllocError> {
+fn push_line(hints: &mut String, alloc: Global, trace: &[u8], number: u64) -> Told {
     let Some(line) = line_at(trace, number) else {
         return hints.push_str("zlab: the trace has more than 134217728 bytes");
     };
     if line.ends_with(b"\r") {
         let text =
             "zlab: line # of the trace ends with a carriage return; only a line feed ends a line";
-        return push_text(hints, text, &[Number(number)]);
+        return tell!(hints; text, number);
     }
-    let values = [Number(number), Value::Word(line)];
-    push_text(hints, "zlab: line # of the trace isn't an item: #", &values)?;
+    tell!(hints; "zlab: line # of the trace isn't an item: #", number, Value::Word(line))?;
     let length = hints.len();
     push_meant(hints, alloc, line)?;
     if hints.len() == length {
@@ -191,24 +160,39 @@ fn push_line(
 }
 
 /// Adds which name was meant by the first word that isn't one, if one is near.
-fn push_meant(hints: &mut String, alloc: Global, line: &[u8]) -> Result<(), AllocError> {
+fn push_meant(hints: &mut String, alloc: Global, line: &[u8]) -> Told {
     let words = words_of(alloc, line)?;
-    let doings = doings(alloc)?;
-    let doings = doings.as_slice();
     match words.as_slice() {
-        [_, doing, ..] if !is_among(doing, doings) => push_nearest(hints, alloc, doing, doings),
-        [_, _, outcome, ..] if is_among(outcome, &OUTCOMES) => Ok(()),
+        [_, doing, ..] if !is_doing(doing) => push_doing(hints, alloc, doing),
+        [_, _, outcome, ..] if is_outcome(outcome) => Ok(()),
         [_, _, outcome, ..] if outcome.starts_with(b"OK") => hints.push_str("; did you mean OK?"),
-        [_, _, outcome, ..] => push_nearest(hints, alloc, outcome, &OUTCOMES),
+        [_, _, outcome, ..] => push_outcome(hints, alloc, outcome),
         _ => Ok(()),
     }
 }
 
-/// What a process does, as an item says it: it runs, it is stuck, or it makes a call.
-fn doings(alloc: Global) -> Result<Vec<&'static str>, AllocError> {
-    let mut doings = vec![in alloc; "run", "stuck"]?;
-    for call in CallName::all() {
-        doings.push(call.name())?;
-    }
-    Ok(doings)
+/// Whether a process does this, as an item says it: it runs, it is stuck, or it makes a call.
+fn is_doing(word: &[u8]) -> bool {
+    is_among(word, &["run", "stuck"]) || CallName::named(word).is_some()
+}
+
+/// Adds which doing of a process was meant.
+fn push_doing(hints: &mut String, alloc: Global, word: &[u8]) -> Told {
+    let mut nearest = Nearest::new(alloc, word)?;
+    nearest.try_all(&["run", "stuck"])?;
+    nearest.try_calls()?;
+    nearest.push(hints)
+}
+
+/// Whether a call ends so, as an item says it.
+fn is_outcome(word: &[u8]) -> bool {
+    is_among(word, &["blocked", "ended"]) || Status::named(word).is_some()
+}
+
+/// Adds which end of a call was meant.
+fn push_outcome(hints: &mut String, alloc: Global, word: &[u8]) -> Told {
+    let mut nearest = Nearest::new(alloc, word)?;
+    nearest.try_statuses()?;
+    nearest.try_all(&["blocked", "ended"])?;
+    nearest.push(hints)
 }

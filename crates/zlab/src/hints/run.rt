@@ -4,10 +4,8 @@ use std::alloc::{AllocError, Global};
 use zl_asm::words::is;
 use zl_calls::World;
 use zl_code::{Boot, CallName, ProcState, TraceItem};
-use zl_hints::Source;
+use zl_explain::{Line, Source, Stuck, Told, explain_stuck, numbered_lines, tell, words_of};
 use zl_lines::is_comment;
-use zl_program_hints::Value::{Name, Number};
-use zl_program_hints::{Line, Stuck, explain_stuck, numbered_lines, push_text, words_of};
 use zl_rights::Pid;
 use zl_sched::{End, System};
 
@@ -90,7 +88,7 @@ fn has_stuck(world: &World) -> bool {
 }
 
 /// Adds that the trace has no room for what a turn on threads may bring.
-fn push_nearly_full(hints: &mut String, system: &System) -> Result<(), AllocError> {
+fn push_nearly_full(hints: &mut String, system: &System) -> Told {
     let count = system.items().len() as u64;
     let limit = count.saturating_add(system.free());
     let text = if limit < Boot::MOST_ITEMS {
@@ -98,18 +96,18 @@ fn push_nearly_full(hints: &mut String, system: &System) -> Result<(), AllocErro
     } else {
         "zlab: the trace has # of # items, a turn may bring two, and no trace has more\n"
     };
-    push_text(hints, text, &[Number(count), Number(limit)])
+    tell!(hints; text, count, limit)
 }
 
 /// Adds that the trace, of so many items, is full.
-fn push_full(hints: &mut String, count: usize) -> Result<(), AllocError> {
+fn push_full(hints: &mut String, count: usize) -> Told {
     let count = count as u64;
     let text = if count < Boot::MOST_ITEMS {
         "zlab: the trace has the # items that its limit lets it have; a line limit N lets it have more\n"
     } else {
         "zlab: the trace has # items, and no trace has more\n"
     };
-    push_text(hints, text, &[Number(count)])
+    tell!(hints; text, count)
 }
 
 fn has_no_turns(schedule: &[(Pid, u32)]) -> bool {
@@ -117,7 +115,7 @@ fn has_no_turns(schedule: &[(Pid, u32)]) -> bool {
 }
 
 /// Adds that nobody runs, as the input has no turns or nothing at all.
-fn push_no_turns(hints: &mut String, input: &[u8]) -> Result<(), AllocError> {
+fn push_no_turns(hints: &mut String, input: &[u8]) -> Told {
     hints.push_str(if has_statements(input) {
         "zlab: there are no turns: nobody runs\n"
     } else {
@@ -147,15 +145,14 @@ fn push_nobody(
     input: &[u8],
     world: &World,
     schedule: &[(Pid, u32)],
-) -> Result<(), AllocError> {
+) -> Told {
     let Some((place, pid)) = first_of_nobody(world, schedule) else {
         return Ok(());
     };
     let lines = numbered_lines(alloc, input)?;
     let lines = lines.as_slice();
     source.push_place(hints, lines, line_of_turns(alloc, lines, place)?)?;
-    let text = "nobody is #; its turns are skipped; ";
-    push_text(hints, text, &[Number(pid)])?;
+    tell!(hints; "nobody is #; its turns are skipped; ", pid)?;
     push_processes(hints, world)?;
     hints.push_str("\n")
 }
@@ -197,7 +194,7 @@ fn line_of_turns(alloc: Global, lines: &[Line], place: usize) -> Result<u64, All
 }
 
 /// Adds which processes there are, of many only the first and the last.
-fn push_processes(hints: &mut String, world: &World) -> Result<(), AllocError> {
+fn push_processes(hints: &mut String, world: &World) -> Told {
     let count = world.process_count();
     let mut lead = match count {
         0 => return hints.push_str("there is no process"),
@@ -207,7 +204,7 @@ fn push_processes(hints: &mut String, world: &World) -> Result<(), AllocError> {
     for n in 0..count {
         match world.process_at(n) {
             Some(pid) if n < SHOWN || n + 1 == count => {
-                push_text(hints, "##", &[Name(lead), Number(pid)])?;
+                tell!(hints; "##", lead, pid)?;
                 lead = ", ";
             }
             _ => lead = " .. ",
@@ -217,7 +214,7 @@ fn push_processes(hints: &mut String, world: &World) -> Result<(), AllocError> {
 }
 
 /// Adds who is blocked and at which call, of many only the first, if anybody is.
-fn push_blocked(hints: &mut String, world: &World) -> Result<(), AllocError> {
+fn push_blocked(hints: &mut String, world: &World) -> Told {
     let mut told = 0;
     for n in 0..world.process_count() {
         let Some(pid) = world.process_at(n) else {
@@ -233,18 +230,13 @@ fn push_blocked(hints: &mut String, world: &World) -> Result<(), AllocError> {
     }
     match world.blocked_count().saturating_sub(told) {
         0 => {}
-        more => push_text(hints, " and # more", &[Number(more as u64)])?,
+        more => tell!(hints; " and # more", more)?,
     }
     hints.push_str("\n")
 }
 
 /// Adds at which call the process waits, and for which signals, if it is for signals.
-fn push_waiting(
-    hints: &mut String,
-    world: &World,
-    pid: Pid,
-    is_first: bool,
-) -> Result<(), AllocError> {
+fn push_waiting(hints: &mut String, world: &World, pid: Pid, is_first: bool) -> Told {
     let (Some(image), Some(cpu)) = (world.image_of(pid), world.cpu_of(pid)) else {
         return Ok(());
     };
@@ -256,10 +248,10 @@ fn push_waiting(
     } else {
         ", # in #"
     };
-    push_text(hints, text, &[Number(pid), Name(call.name.name())])?;
+    tell!(hints; text, pid, call.name.name())?;
     if let CallName::WaitOne = call.name {
         let mask = cpu.register(call.registers[2]);
-        push_text(hints, " for the signals #", &[Number(mask)])?;
+        tell!(hints; " for the signals #", mask)?;
     }
     Ok(())
 }

@@ -2,17 +2,15 @@
 
 use crate::ends::Progress;
 use crate::fault::{EngineFault, Verdict};
-use zl_program_hints::Value::{Number, Word};
-use zl_program_hints::push_text;
+use zl_explain::Value::Word;
+use zl_explain::tell;
 
 /// Adds a line where the search met more worlds than so many.
 pub fn explain_search(hints: &mut String, ended: &Result<Verdict, EngineFault>, worlds: u32) {
     let pushed = match ended {
-        Ok(Verdict::Cut) => push_text(
-            hints,
-            "zlab: there are more than # worlds, so there may be other ends; --worlds N takes more\n",
-            &[Number(u64::from(worlds))],
-        ),
+        Ok(Verdict::Cut) =>
+            tell!(hints; "zlab: there are more than # worlds, so there may be other ends; --worlds N takes more\n",
+                worlds),
         _ => Ok(()),
     };
     if pushed.is_err() {
@@ -22,11 +20,9 @@ pub fn explain_search(hints: &mut String, ended: &Result<Verdict, EngineFault>, 
 
 /// Adds that the words are no part.
 pub fn explain_part(hints: &mut String, words: &[u8]) {
-    let pushed = push_text(
-        hints,
-        "\"#\" is no part: a part is K/N, two decimal numbers without signs or zeros before them, K from 1 to N",
-        &[Word(words)],
-    );
+    let pushed =
+        tell!(hints; "\"#\" is no part: a part is K/N, two decimal numbers without signs or zeros before them, K from 1 to N",
+            Word(words));
     if pushed.is_err() {
         hints.clear();
     }

@@ -1,4 +1,4 @@
-use Rattle.zl_asm.proofs.Common.{List, [], eqb, held_by, inl, inr, length, lines_of, map-append, rules, subst, sym, ℕ, ◌∷◌}
+use Rattle.zl_asm.proofs.Common.{List, [], eqb, held_by, inl, inr, length, lines_of, map-append, rules, subst, sym, ℕ, ◌∙◌, ◌∷◌}
 use Rattle.std.proofs.lemmas.Iterator.Consumers.{YieldsList-so_far, YieldsList-turn, YieldsList-end, YieldsList-from_enumerate}
 use Rattle.std.proofs.lemmas.Iterator.Splits.{YieldsList-from_slice_split}
 use Rattle.zl_asm.proofs.Numbered.{lines_so_far, lines_all}
@@ -17,7 +17,7 @@ returns-in-Err-clause-refused c =
     let before = subst (λ (ls : List (List ℕ)). SoFar ls (held_by c.loop-index.draft))
     (lines_so_far (λ l. l.now) (lines_of c.args.text.now) c.loop-index.yielded front) c.loop-index.invariant in
     elim ((c.in-Err.ensures {u = tt}).refused) [
-      | inl starved ↦ inl starved
+      | inl starved ↦ inl (c.in_line.ensures ∙ starved)
       | inr stops ↦ inr (stops_at c.args.text.now _ _ c.in-Some.line.now (held_by c.loop-index.draft) cut before stops)
     ]
 

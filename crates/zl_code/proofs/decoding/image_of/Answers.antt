@@ -79,9 +79,9 @@ returns-then-not-keeps-clause-first c =
     let no_instr = sym (λ k. first_some (map (instr_fault (e.version k) (e.raw k)) (code k))) ∙ c.in_ok-code.ensures.none in
     let kept : c.in_ok-keeps.keeps ≡ are_blocks (marks_of c.in_ok-code.code.items) (map jump_of c.in_ok-code.code.items) =
     rw c.deref.ensures.value at c.in_ok-keeps.ensures in
-    inr (first_fault-blocks bytes false e.fault no_start no_slot no_instr
+    rw c.at.ensures (inr (first_fault-blocks bytes false e.fault no_start no_slot no_instr
     (same_keep bytes _ _ c.in_ok-code.code.items e.version (c.in_ok-code.ensures.bytes ∙ code)
-    c.in_ok-code.ensures.in_range false (sym c.if-not-keeps.true ∙ kept)))
+    c.in_ok-code.ensures.in_range false (sym c.if-not-keeps.true ∙ kept))))
 
 pub returns-clause-found : goal.returns-clause-found
 returns-clause-found c =

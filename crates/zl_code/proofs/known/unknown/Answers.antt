@@ -9,4 +9,4 @@ pub returns-then-raw-clause-fault : goal.returns-then-raw-clause-fault
 returns-then-raw-clause-fault c = instr_fault-unknown c.args.version c.args.raw c.args.bytes c.requires ∙ rw c.if-raw.true refl
 
 pub returns-else-raw-clause-fault : goal.returns-else-raw-clause-fault
-returns-else-raw-clause-fault c = instr_fault-unknown c.args.version c.args.raw c.args.bytes c.requires ∙ rw c.if-raw.false refl
+returns-else-raw-clause-fault c = instr_fault-unknown c.args.version c.args.raw c.args.bytes c.requires ∙ rw (c.if-raw.false, c.at.ensures) refl

@@ -5,8 +5,9 @@ use Rattle.zl_scenario.proofs.body.push_digits.Goals.{then-byte-ne32+in-Some+in_
 
 pub returns-in_default : goal.returns-in_default
 returns-in_default c =
-    sym c.loop-byte.invariant
-    ∙ at_other c.loop-byte.digits c.args.line.now c.loop-byte.byte-index c.loop-byte-test.true c.if-byte-ne32.true c.in_default.ensures
+    rw c.alone.ensures
+    (sym c.loop-byte.invariant
+    ∙ at_other c.loop-byte.digits c.args.line.now c.loop-byte.byte-index c.loop-byte-test.true c.if-byte-ne32.true c.in_default.ensures)
 
 pub loop-byte-preserved : goal.loop-byte-preserved
 loop-byte-preserved c = elim c.if-byte-ne32.branch [

@@ -9,6 +9,7 @@ returns-in-Ok-clause-ok c =
 pub returns-in_default : goal.returns-in_default
 returns-in_default c = record {
   ok = λ bytes read.
-      found_none c.args.front.now c.decode.result c.in-Err.fault c.in-Err.is c.in_default.not-NoMemory c.decode.ensures.only c.decode.ensures.first bytes read;
+      rw c.fault.ensures (found_none c.args.front.now c.decode.result c.in-Err.undecoded c.in-Err.is (rw c.fault.ensures at c.in_default.not-NoMemory)
+      c.decode.ensures.only c.decode.ensures.first bytes read);
   err = tt;
 }

@@ -14,8 +14,8 @@ returns-in-Text-clause-err g c =
 pub returns-in-TooLong-clause-ok : goal.returns-in-TooLong-clause-ok
 returns-in-TooLong-clause-ok g c =
     both_ok c.write_refusal-ended.result _ _ _ (λ v. long_answers _ _ _ v c.in-TooLong.is) c.write_refusal-ended.ensures.verdict
-    c.write_refusal-ended.ensures.ok
+    (rw c.alone-fault.ensures at c.write_refusal-ended.ensures.ok)
 
 pub returns-in-TooLong-clause-err : goal.returns-in-TooLong-clause-err
 returns-in-TooLong-clause-err g c =
-    mapped_err c.write_refusal-ended.result _ _ (long_begins _ _ _ c.in-TooLong.is) c.write_refusal-ended.ensures.err
+    mapped_err c.write_refusal-ended.result _ _ (long_begins _ _ _ c.in-TooLong.is) (rw c.alone-fault.ensures at c.write_refusal-ended.ensures.err)

@@ -35,8 +35,8 @@ returns-in-None-3-clause-ok c trace is =
       rw c.in-Faulty.is at (c.in_ok-fault-in-None.ensures.ok trace is),
     )
 
-pub returns-in-All-clause-ok : goal.returns-in-All-clause-ok
-returns-in-All-clause-ok c =
+pub returns-clause-ok : goal.returns-clause-ok
+returns-clause-ok c =
     let made = c.in_ok-scenario.field-0 in
     let read = c.in_ok-scenario.ensures in
     mapped_ok c.replay_items.result _ _

@@ -12,4 +12,4 @@ returns-in_ok-found-in-Text-clause-ok c text trace holds is =
     (c.in_ok-found-in-Text.ensures.ok trace is)
 
 pub returns-in-TooLong-clause-ok : goal.returns-in-TooLong-clause-ok
-returns-in-TooLong-clause-ok c text trace holds is = fault_of_length text (rw c.in-TooLong.is at holds)
+returns-in-TooLong-clause-ok c text trace holds is = rw c.alone-fault.ensures (fault_of_length text (rw c.in-TooLong.is at holds))

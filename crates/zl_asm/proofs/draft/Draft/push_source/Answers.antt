@@ -17,5 +17,6 @@ returns-in-Err-clause-refused c =
 pub returns-in_ok-extend_from_slice-in-Ok-clause-held : goal.returns-in_ok-extend_from_slice-in-Ok-clause-held
 returns-in_ok-extend_from_slice-in-Ok-clause-held c =
     source_added (held_by c.args.self.now) c.args.self.now.sources.items c.extend_from_slice.new.self.items
-    (record { line = c.args.line; kept = c.in-Ok.kept }) (source_value c.args.source) (c.in_ok-extend_from_slice-in-Ok.ensures {u = tt}).items refl
+    (record { line = c.args.line; last = c.args.last; kept = c.in-Ok.kept }) (source_value c.args.source)
+    (c.in_ok-extend_from_slice-in-Ok.ensures {u = tt}).items refl
     (c.in-Ok.ensures {u = tt}).same

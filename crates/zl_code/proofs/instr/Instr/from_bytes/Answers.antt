@@ -9,34 +9,34 @@ returns-in_err-fields-in-Some-clause-fault c =
     rw (p.1, p.2, c.in_err-fields-in-Some.ensures.fault.0)
     (instr_fault-register c.args.version c.args.raw c.args.bytes _ (sym c.in-Some.ensures.layout) c.in_err-fields-in-Some.ensures.fault.1)
 
-pub returns-then-not-names_registers-clause-fault :
-    goal.returns-then-not-names_registers-clause-fault
-returns-then-not-names_registers-clause-fault c =
+pub returns-in-Some-missing_register-clause-fault :
+    goal.returns-in-Some-missing_register-clause-fault
+returns-in-Some-missing_register-clause-fault c =
     let e = c.in_ok-fields-in-Some.ensures in
-    instr_fault-named c.args.version c.args.raw c.args.bytes _ _ (sym c.in-Some.ensures.layout) e.in_range
-    (record { registers = e.registers; imm = e.imm; target = e.target; places = e.places }) (sym c.if-not-names_registers.ensures)
+    rw c.at-in-Some-missing_register.ensures (instr_fault-named c.args.version c.args.raw c.args.bytes _ _ (sym c.in-Some.ensures.layout) e.in_range
+    (record { registers = e.registers; imm = e.imm; target = e.target; places = e.places }) (sym c.in-Some-missing_register.ensures))
 
-pub returns-then-not-is_unused_zero-clause-fault :
-    goal.returns-then-not-is_unused_zero-clause-fault
-returns-then-not-is_unused_zero-clause-fault c =
+pub returns-in-Some-unused_field-clause-fault :
+    goal.returns-in-Some-unused_field-clause-fault
+returns-in-Some-unused_field-clause-fault c =
     let e = c.in_ok-fields-in-Some.ensures in
-    instr_fault-known c.args.version c.args.raw c.args.bytes _ _ false (sym c.in-Some.ensures.layout) e.in_range
-    (record { registers = e.registers; imm = e.imm; target = e.target; places = e.places }) (sym c.if-not-names_registers.ensures)
-    (sym c.if-not-is_unused_zero.ensures)
+    rw c.at-in-Some-unused_field.ensures (instr_fault-known c.args.version c.args.raw c.args.bytes _ _ false (sym c.in-Some.ensures.layout) e.in_range
+    (record { registers = e.registers; imm = e.imm; target = e.target; places = e.places }) (sym (c.in_default.ensures {u = tt}))
+    (sym c.in-Some-unused_field.ensures))
 
-pub returns-else-not-is_unused_zero-clause-bytes :
-    goal.returns-else-not-is_unused_zero-clause-bytes
-returns-else-not-is_unused_zero-clause-bytes c =
+pub returns-in_default-unused_field-clause-bytes :
+    goal.returns-in_default-unused_field-clause-bytes
+returns-in_default-unused_field-clause-bytes c =
     let fits : IsBytes c.args.bytes = λ i. search (rules, c.well_formed) in
     let e = c.in_ok-fields-in-Some.ensures in
     let known = IfSome-at _ _ _ (ap layout_of e.opcode ∙ c.in-Some.ensures.row) c.known.ensures.bytes in
     row_bytes-read c.args.bytes _ _ _ _ (search rules) fits e.opcode (record { registers = e.registers; imm = e.imm; target = e.target; places = e.places })
-    (sym c.if-not-is_unused_zero.ensures) known
+    (sym (c.in_default-unused_field.ensures {u = tt})) known
 
-pub returns-else-not-is_unused_zero-clause-fault :
-    goal.returns-else-not-is_unused_zero-clause-fault
-returns-else-not-is_unused_zero-clause-fault c =
+pub returns-in_default-unused_field-clause-fault :
+    goal.returns-in_default-unused_field-clause-fault
+returns-in_default-unused_field-clause-fault c =
     let e = c.in_ok-fields-in-Some.ensures in
     instr_fault-known c.args.version c.args.raw c.args.bytes _ _ true (sym c.in-Some.ensures.layout) e.in_range
-    (record { registers = e.registers; imm = e.imm; target = e.target; places = e.places }) (sym c.if-not-names_registers.ensures)
-    (sym c.if-not-is_unused_zero.ensures)
+    (record { registers = e.registers; imm = e.imm; target = e.target; places = e.places }) (sym (c.in_default.ensures {u = tt}))
+    (sym (c.in_default-unused_field.ensures {u = tt}))

@@ -16,8 +16,8 @@ returns-in-Err-Refused c =
     let reads = at_fault _ (lines_of c.args.text.now) c.args.self.now c.loop-index.self (length c.loop-index.yielded) c.in-Some.index c.in-Some.line.now _
     c.loop-index.invariant
     (lines_so_far (λ l. l.now) (lines_of c.args.text.now) c.loop-index.yielded front) at
-    (λ rest. line_faulty (c.in-Some.index + 1) c.loop-index.self c.in-Some.line.now rest c.in-Err-Refused.cause told.0 told.1) in
-    rw (kept, c.told_line-told.ensures, c.in-Err-Refused.cause-is) reads
+    (λ rest. line_faulty (c.in-Some.index + 1) c.loop-index.self c.in-Some.line.now rest c.in-Err-Refused.fault told.0 told.1) in
+    rw (kept, c.in_line.ensures, c.told_line-told.ensures, c.in-Err-Refused.fault-is) reads
 
 pub returns-in-Err-Unaccepted : goal.returns-in-Err-Unaccepted
 returns-in-Err-Unaccepted c =
@@ -31,7 +31,7 @@ returns-in-Err-Unaccepted c =
     c.loop-index.invariant
     (lines_so_far (λ l. l.now) (lines_of c.args.text.now) c.loop-index.yielded front) at
     (λ rest. program_refused (c.in-Some.index + 1) c.loop-index.self c.in-Some.line.now rest told) in
-    rw (kept, c.told_line-told.ensures) reads
+    rw (kept, c.in_line-in-Err-Unaccepted.ensures, c.new.ensures, c.told_line-told.ensures) reads
 
 pub loop-index-preserved : goal.loop-index-preserved
 loop-index-preserved c =

@@ -2,12 +2,12 @@
 
 mod guess;
 
+use crate::again::{Line, instructions_of, line_of_byte};
 use crate::image::guess::push_guess;
 use crate::program::breach::{breach_at, push_breach_at};
-use crate::text::lines::{Line, push_head};
-use crate::text::{Told, plural};
+use crate::text::{Told, plural, push_head};
 use std::alloc::{AllocError, Global};
-use zl_code::{DecodeFault, Ending, Image, Instr, Row, Undecoded, Version};
+use zl_code::{DecodeFault, Ending, Image, Instr, Row, Undecoded};
 
 /// Bytes that spell no image, and where their digits stand.
 #[derive(Clone, Copy)]
@@ -47,15 +47,7 @@ impl Spelling<'_> {
 
     /// The line where the byte of this offset stands.
     fn line_of(self, offset: usize) -> u64 {
-        let mut digits = 0usize;
-        for line in self.lines {
-            let in_line = line.bytes.iter().filter(|byte| **byte != b' ');
-            digits = digits.saturating_add(in_line.count());
-            if digits > offset.saturating_mul(2) {
-                return line.number;
-            }
-        }
-        self.ended
+        line_of_byte(self.lines, offset).unwrap_or(self.ended)
     }
 }
 
@@ -191,22 +183,10 @@ fn push_field_fault(hint: &mut String, spelling: Spelling, at: usize, cause: &st
     tell!(hint; text, spelling.byte(at), place)
 }
 
-/// The instructions that the bytes spell. Only version 2 has blocks.
-fn code_of(alloc: Global, bytes: &[u8]) -> Result<Vec<Instr>, AllocError> {
-    let (pieces, _) = bytes.as_chunks::<{ Instr::LEN }>();
-    let mut code = Vec::new(alloc);
-    for piece in pieces {
-        if let Ok(instr) = Instr::from_bytes(Version::Two, true, *piece) {
-            code.push(instr)?;
-        }
-    }
-    Ok(code)
-}
-
 /// Adds which rep, endrep or jump of the instructions, which begin at this offset, breaks the rule of
 /// blocks, and how.
 fn push_block_fault(hint: &mut String, alloc: Global, spelling: Spelling, begin: usize) -> Told {
-    let code = code_of(alloc, spelling.bytes.get(begin..).unwrap_or(&[]))?;
+    let code = instructions_of(alloc, spelling.bytes.get(begin..).unwrap_or(&[]))?;
     for (number, instr) in code.iter().enumerate() {
         if let Some(text) = breach_at(code.as_slice(), number) {
             let offset = begin.saturating_add(number.saturating_mul(Instr::LEN));

@@ -1,10 +1,10 @@
 //! What a person is told on standard error of what is refused, fails or is stuck: where the fault is, what is
 //! wrong, and what was wanted.
 //!
-//! It stands on `zl_scenario` for how a scenario is read, on `zl_asm` for how a text is read and an
-//! instruction is written, on `zl_verify` and `zl_abs` for what the verifier knows where it refuses, on
-//! `zl_code` and `zl_rights` for what an image has, on `bitflags`, and on `strsim` for the name that was
-//! meant.
+//! It stands on `zl_scenario` for how a scenario is read, on `zl_lines` for how a line is cut into words,
+//! on `zl_asm` for how a text is read and an instruction is written, on `zl_verify` and `zl_abs` for what
+//! the verifier knows where it refuses, on `zl_code` and `zl_rights` for what an image has, on `bitflags`,
+//! and on `strsim` for the name that was meant.
 //!
 //! Texts for people have no contract: each function is safe and returns, whatever it is given, and no
 //! more is promised. A function that adds to a hint answers with `AllocError` where memory is refused,
@@ -20,6 +20,7 @@ macro_rules! tell {
     };
 }
 
+mod again;
 mod command;
 mod image;
 mod name;
@@ -30,6 +31,9 @@ mod scenario;
 mod stuck;
 mod text;
 
+pub use again::{
+    Line, has_statements, line_at, line_of_item, line_of_turns, numbered_lines, words_of,
+};
 pub use command::bad::explain_bad;
 pub use command::explain_words;
 pub use command::failing::{explain_failure, explain_opening};
@@ -41,5 +45,4 @@ pub use refusal::explain_refusal;
 pub use scenario::source::{LONE_SCENARIO, STANDARD_INPUT, Source};
 pub use scenario::{explain_scenario, is_among};
 pub use stuck::{Stuck, explain_stuck};
-pub use text::lines::{Line, line_at, numbered_lines, words_of};
 pub use text::{Told, Value, plural, push_text};

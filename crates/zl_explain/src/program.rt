@@ -6,16 +6,14 @@ mod directive;
 mod instruction;
 mod meant;
 
+use crate::again::{Line, numbered_lines, place_of_blank, place_outside_ascii};
 use crate::name::Nearest;
 use crate::program::breach::push_breach;
 use crate::program::directive::{push_limit, push_unknown_directive, push_wrong_directive};
 use crate::program::instruction::{push_unknown_instruction, push_wrong_instruction};
 use crate::program::meant::push_meant;
-use crate::text::Told;
 use crate::text::Value::Word;
-use crate::text::lines::{
-    Line, code_of, numbered_lines, place_of_blank, place_outside_ascii, push_head, push_odd_byte,
-};
+use crate::text::{Told, push_head, push_odd_byte};
 use std::alloc::{AllocError, Global};
 use zl_asm::words::{is, split_words};
 use zl_asm::{AsmCause, AsmFault};
@@ -85,7 +83,7 @@ pub fn push_program_fault(
         is_block: lines.first().is_some_and(|line| line.number > 1),
     };
     match fault.cause {
-        AsmCause::Token => push_token(hint, line.bytes, &wrong),
+        AsmCause::Token => push_token(hint, line, &wrong),
         AsmCause::LabelMissing => push_label_missing(hint, lines, &wrong),
         cause => push_cause(hint, cause, &wrong),
     }
@@ -110,9 +108,9 @@ fn push_cause(hint: &mut String, cause: AsmCause, wrong: &Wrong) -> Told {
 }
 
 /// Adds which word the grammar doesn't have, or where a comma is missing or one too many.
-fn push_token(hint: &mut String, line: &[u8], wrong: &Wrong) -> Told {
-    if let Some(place) = place_of_blank(code_of(line)) {
-        return push_odd_byte(hint, line, place);
+fn push_token(hint: &mut String, line: &Line, wrong: &Wrong) -> Told {
+    if let Some(place) = place_of_blank(line.code()) {
+        return push_odd_byte(hint, line.bytes, place);
     }
     let name = wrong.name;
     let has_comma = name.starts_with(b".") && wrong.operands.iter().any(|word| is(word, b","));
@@ -163,7 +161,7 @@ fn push_label_missing(hint: &mut String, lines: &[Line], wrong: &Wrong) -> Told 
     tell!(hint; "no label is called #", Word(target))?;
     let mut nearest = Nearest::new(wrong.alloc, target)?;
     for line in lines {
-        if let Some(label) = str::from_utf8(line.name()).unwrap_or("").strip_suffix(':') {
+        if let Some(label) = line.label() {
             nearest.try_name(label)?;
         }
     }

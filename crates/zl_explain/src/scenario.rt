@@ -8,9 +8,10 @@ pub mod numbers;
 pub mod source;
 mod starts;
 
+use crate::again::{form_of, is_opening, place_of_blank, place_outside_ascii};
 use crate::name::{Nearest, push_nearest};
 use crate::page::{Page, push_page};
-use crate::program::block::{is_opening, push_block_fault};
+use crate::program::block::push_block_fault;
 use crate::scenario::checked::push_refused_block;
 use crate::scenario::faulty::Faulty;
 use crate::scenario::handles::{push_no_handle, push_no_object, push_wrong_handles};
@@ -18,8 +19,7 @@ use crate::scenario::jobs::{push_no_job, push_no_policy, push_policy};
 use crate::scenario::numbers::{push_names, push_no_number};
 use crate::scenario::source::Source;
 use crate::text::Value::Word;
-use crate::text::lines::{place_of_blank, place_outside_ascii, push_head, push_odd_byte};
-use crate::text::{Told, plural};
+use crate::text::{Told, plural, push_head, push_odd_byte};
 use std::alloc::Global;
 use zl_asm::words::is;
 use zl_code::Statement;
@@ -90,14 +90,6 @@ fn push_fault(hint: &mut String, faulty: &Faulty) -> Told {
         _ => push_line_fault(hint, faulty)?,
     }
     hint.push_str("\n")
-}
-
-/// How the block is written that the words open.
-pub fn form_of(words: &[&[u8]]) -> Form {
-    match words {
-        [_, _, form] if is(form, b"hex") => Form::Hex,
-        _ => Form::Asm,
-    }
 }
 
 /// The page that helps with a block, which these words open.
@@ -187,7 +179,7 @@ fn push_wrong_name(hint: &mut String, faulty: &Faulty) -> Told {
         return nearest.push(hint);
     }
     hint.push_str("; turns stand below a line --")?;
-    let is_bare = faulty.scenario.library.is_empty() && faulty.objects.len() == 1;
+    let is_bare = faulty.above.scenario.library.is_empty() && faulty.above.objects.len() == 1;
     if faulty.source.has_files && is_bare {
         hint.push_str("; is SCENARIO the first word?")?;
     }
@@ -204,7 +196,7 @@ fn push_wrong_word(hint: &mut String, faulty: &Faulty, place: usize) -> Told {
     let (name, word) = (faulty.word(0), faulty.word(place));
     let is_process = is(name, b"process");
     match (faulty.cause, place) {
-        (Cause::Unknown, _) => push_no_program(hint, word, faulty.scenario.library.len()),
+        (Cause::Unknown, _) => push_no_program(hint, word, faulty.above.scenario.library.len()),
         (Cause::Limit, _) => tell!(hint; "the limit is #, and at most 1000000", Word(word)),
         (_, 1) if is(name, b"limit") => push_no_number(hint, "N", word),
         (_, 1) if is(name, b"job") => push_no_number(hint, "PARENT", word),
@@ -267,7 +259,7 @@ fn push_refused(hint: &mut String, faulty: &Faulty, statement: &Statement) -> To
 
 /// Adds of what there is too much for the statement: processes, levels of jobs or objects.
 fn push_too_many(hint: &mut String, faulty: &Faulty, statement: &Statement) -> Told {
-    let last = faulty.objects.len();
+    let last = faulty.above.objects.len();
     match statement {
         Statement::Process { .. } if faulty.count(Kind::Process) >= MOST_PROCESSES => {
             hint.push_str("a scenario starts at most 64 processes")
@@ -303,7 +295,7 @@ fn push_turns(hint: &mut String, faulty: &Faulty) -> Told {
 
 /// Adds where the line `--` stands that comes before this one.
 fn push_second_dashes(hint: &mut String, faulty: &Faulty) -> Told {
-    let dashes = faulty.scenario.schedule_line.unwrap_or(0);
+    let dashes = faulty.above.scenario.schedule_line.unwrap_or(0);
     let joint = faulty.source.joint(&faulty.lines);
     let text = if faulty.number == joint {
         "SCENARIO has a schedule already (line #): zlab < FILE runs it"

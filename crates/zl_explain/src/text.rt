@@ -1,7 +1,5 @@
 //! Texts for people: a literal with a `#` for each value, and one function that writes both.
 
-pub mod lines;
-
 use std::alloc::AllocError;
 use std::fmt;
 use zl_code::Register;
@@ -107,4 +105,31 @@ impl fmt::Display for Word<'_> {
 /// What a noun ends in behind this number.
 pub fn plural(count: usize) -> &'static str {
     if count == 1 { "" } else { "s" }
+}
+
+/// Adds what the beginning of a hint is: the line, if there is one, and the cause.
+pub fn push_head(hint: &mut String, line: u64, cause: &str) -> Told {
+    if line == 0 {
+        write!(hint, "zlab: {cause}: ")
+    } else {
+        write!(hint, "zlab: line {line}: {cause}: ")
+    }
+}
+
+/// Adds what the byte at this place of the line is, which no line has there.
+pub fn push_odd_byte(hint: &mut String, line: &[u8], place: usize) -> Told {
+    let number = place.saturating_add(1);
+    let byte = line.get(place).copied().unwrap_or(0);
+    let text = match byte {
+        b'\t' => "byte # of the line is a tab; only spaces part words",
+        b'\r' if number == line.len() => {
+            "the line ends with a carriage return; only a line feed ends a line"
+        }
+        b'\r' => "byte # of the line is a carriage return",
+        _ if line.starts_with(b"\xef\xbb\xbf") => {
+            "the line begins with a byte order mark; every byte has to be ASCII"
+        }
+        _ => "byte # of the line is #; ASCII ends at 127",
+    };
+    tell!(hint; text, number, byte)
 }

@@ -5,10 +5,10 @@
 //! It stands on `zl_sched` for a run along a schedule, on `zl_pool` for one on threads, on `zl_explore` for
 //! the search over all orders and on `zl_trace` for its text, on `zl_scenario` for what an input says, on
 //! `zl_command` for the command line, on `zl_explain` for what a person is told, on `zl_asm` for the
-//! assembler, on `zl_verify` for the verifier, on `zl_calls` for the world, on `zl_interp`, `zl_code`,
-//! `zl_rights` and `zl_lines` for what these speak of, and on `thiserror`. It promises, by the contracts of `step_engine`, `step_files_engine`, `run_engine`, `explore_engine`,
-//! `replay_engine`, `asm_engine` and `check_engine`, that what is written is the answer to what was read. A
-//! run on threads may wait; all else returns.
+//! assembler, on `zl_verify` for the verifier, on `zl_calls` for the world, on `zl_interp`, `zl_code` and
+//! `zl_rights` for what these speak of, and on `thiserror`. It promises, by the contracts of `step_engine`,
+//! `step_files_engine`, `run_engine`, `explore_engine`, `replay_engine`, `asm_engine` and `check_engine`,
+//! that what is written is the answer to what was read. A run on threads may wait; all else returns.
 #![tactic(auto)]
 
 mod assembling;

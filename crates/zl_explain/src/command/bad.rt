@@ -1,11 +1,11 @@
 //! What is wrong with the words of `--bad`.
 
+use crate::again::words_of;
 use crate::name::Nearest;
 use crate::scenario::is_among;
 use crate::scenario::numbers::{is_digits, push_no_number};
 use crate::text::Told;
 use crate::text::Value::Word;
-use crate::text::lines::words_of;
 use bitflags::Flags;
 use std::alloc::Global;
 use zl_code::CallName;

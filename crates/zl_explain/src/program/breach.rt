@@ -1,8 +1,8 @@
 //! Which rule of counted blocks is broken, in bytes and in a text.
 
+use crate::again::blocks_open;
 use crate::program::Wrong;
 use crate::text::Told;
-use crate::text::lines::Line;
 use zl_asm::numbers::number;
 use zl_asm::words::is;
 use zl_code::{Image, Instr, InstrBytes, LocalInstr, Row};
@@ -103,17 +103,4 @@ pub fn push_breach(hint: &mut String, wrong: &Wrong) -> Told {
     let turns = wrong.operands.first().and_then(|word| number(word));
     let text = rep_fault(turns.unwrap_or(0), blocks_open(wrong.above));
     hint.push_str(text.unwrap_or("no line endrep ends this block"))
-}
-
-/// How many blocks are open behind these lines.
-fn blocks_open(lines: &[Line]) -> usize {
-    let mut depth = 0usize;
-    for line in lines {
-        if is(line.name(), b"endrep") {
-            depth = depth.saturating_sub(1);
-        } else if is(line.name(), b"rep") {
-            depth = depth.saturating_add(1);
-        }
-    }
-    depth
 }

@@ -108,12 +108,9 @@ fn push_wrong_operand(hint: &mut String, wrong: &Wrong, place: usize, word: &[u8
 
 /// Adds that the directive stands below a label or an instruction, or below one of its name.
 fn push_wrong_place(hint: &mut String, wrong: &Wrong) -> Told {
-    for line in wrong.above {
-        let name = line.name();
-        if !name.is_empty() && (!name.starts_with(b".") || is(name, b".bytes")) {
-            return tell!(hint; "directives stand above the first label and instruction, in line #",
-                line.number);
-        }
+    if let Some(line) = wrong.above.iter().find(|line| line.is_code()) {
+        return tell!(hint; "directives stand above the first label and instruction, in line #",
+            line.number);
     }
     push_already(hint, "", wrong)
 }

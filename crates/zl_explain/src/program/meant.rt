@@ -1,10 +1,10 @@
 //! What was meant by a line that stands in no text.
 
+use crate::again::Line;
 use crate::name::numbers::push_number_named;
 use crate::program::Wrong;
 use crate::text::Told;
 use crate::text::Value::Word;
-use crate::text::lines::{Line, code_of};
 use zl_code::Row;
 
 /// The first words of the lines of a scenario that stand in no block.
@@ -51,7 +51,7 @@ pub fn push_meant(hint: &mut String, wrong: &Wrong, odd: &[u8]) -> Told {
 /// mark.
 pub fn push_meant_in_hex(hint: &mut String, line: &Line, mark: &[u8]) -> Told {
     let name = line.name();
-    let is_text = code_of(line.bytes).iter().all(|byte| *byte == b' ')
+    let is_text = line.code().iter().all(|byte| *byte == b' ')
         || name.starts_with(b".")
         || name.ends_with(b":")
         || Row::named(name).is_some();

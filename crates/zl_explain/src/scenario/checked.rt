@@ -1,14 +1,10 @@
 //! What standard error says of a checked program of a scenario that the verifier refuses.
 
-use crate::program::block::block_of;
+use crate::again::{block_of, form_of, line_of_instruction, refusal_of};
 use crate::refusal::push_reason;
 use crate::scenario::faulty::Faulty;
-use crate::scenario::form_of;
-use crate::text::Told;
-use crate::text::lines::{Line, push_head};
-use std::alloc::Global;
-use zl_scenario::{Body, Form};
-use zl_verify::{Refusal, check};
+use crate::text::{Told, push_head};
+use zl_scenario::Form;
 
 /// Adds why the program is refused whose block the line opens. The line that is named is that of the
 /// instruction, where the block is a text.
@@ -19,32 +15,12 @@ pub fn push_refused_block(hint: &mut String, faulty: &Faulty) -> Told {
         return push_head(hint, faulty.number, faulty.cause.name());
     };
     let at = refusal.at;
-    let mut code = block.lines.iter().filter(|line| is_instruction(line.bytes));
-    let number = match (form, code.nth(at)) {
-        (Form::Asm, Some(line)) => line.number,
-        _ => faulty.number,
+    let line = match form {
+        Form::Asm => line_of_instruction(&block.lines, at),
+        Form::Hex => None,
     };
+    let number = line.unwrap_or(faulty.number);
     push_head(hint, number, refusal.cause.name())?;
     tell!(hint; "instruction #: ", at)?;
     push_reason(hint, alloc, &refusal)
-}
-
-/// Why the block of these lines is refused, if it is an image that is.
-fn refusal_of(alloc: Global, lines: &[Line], form: Form) -> Option<Refusal> {
-    let mut body = Body::new(alloc);
-    body.open(form);
-    for line in lines {
-        body.push_line(line.bytes).ok()?;
-    }
-    check(alloc, body.image(alloc).ok()?).err()
-}
-
-/// Whether the line of a text has an instruction, and no directive or label.
-fn is_instruction(line: &[u8]) -> bool {
-    let Ok(line) = str::from_utf8(line) else {
-        return false;
-    };
-    let code = line.split(';').next().unwrap_or("").trim_matches(' ');
-    let is_directive = code.starts_with('.') && !code.starts_with(".bytes");
-    !(code.is_empty() || is_directive || code.ends_with(':'))
 }

@@ -1,11 +1,11 @@
 //! A line that is refused, and what stands above it.
 
+use crate::again::{Above, Line, numbered_lines, words_of};
 use crate::scenario::source::Source;
-use crate::text::lines::{Line, numbered_lines, words_of};
 use std::alloc::{AllocError, Global};
 use zl_code::Statement;
 use zl_rights::{Kind, Koid};
-use zl_scenario::{Cause, LineFault, PlacedFault, Reading, Scenario, read_scenario};
+use zl_scenario::{Cause, LineFault, PlacedFault};
 
 /// A line that is refused, among the lines of its input.
 #[derive(Drop)]
@@ -20,12 +20,7 @@ pub struct Faulty<'a> {
     pub words: Vec<&'a [u8]>,
     /// Which of the words is at fault, if one is.
     pub place: Option<usize>,
-    /// What the reader makes of the input, up to a fault of its own.
-    pub scenario: Scenario,
-    /// How many statements stand above the line.
-    above: usize,
-    /// The kind of each object that these make, by its koid from 1: the first is the root job.
-    pub objects: Vec<Kind>,
+    pub above: Above,
 }
 
 impl<'a> Faulty<'a> {
@@ -37,9 +32,7 @@ impl<'a> Faulty<'a> {
         fault: &PlacedFault,
     ) -> Result<Faulty<'a>, AllocError> {
         let LineFault { line, cause } = fault.fault();
-        let Reading { scenario, .. } = read_scenario(alloc, input)?;
-        let above = scenario.lines.iter().filter(|made| **made < line).count();
-        let objects = objects_of(alloc, &scenario, above)?;
+        let above = Above::new(alloc, input, line)?;
         let mut faulty = Faulty {
             alloc,
             source,
@@ -48,9 +41,7 @@ impl<'a> Faulty<'a> {
             cause,
             words: Vec::new(alloc),
             place: fault.word(),
-            scenario,
             above,
-            objects,
         };
         faulty.words = words_of(alloc, faulty.bytes())?;
         Ok(faulty)
@@ -76,8 +67,13 @@ impl<'a> Faulty<'a> {
 
     /// The statement that the line says, where the reader took it.
     pub fn statement(&self) -> Option<&Statement> {
-        if self.scenario.lines.get(self.above) == Some(&self.number) {
-            self.scenario.boot.statements.get(self.above)
+        let Above {
+            scenario,
+            count,
+            ..
+        } = &self.above;
+        if scenario.lines.get(*count) == Some(&self.number) {
+            scenario.boot.statements.get(*count)
         } else {
             None
         }
@@ -85,7 +81,7 @@ impl<'a> Faulty<'a> {
 
     /// Whether the line stands below the line `--`.
     pub fn is_in_schedule(&self) -> bool {
-        match self.scenario.schedule_line {
+        match self.above.scenario.schedule_line {
             Some(dashes) => dashes < self.number,
             None => false,
         }
@@ -94,34 +90,12 @@ impl<'a> Faulty<'a> {
     /// The kind of the object with this koid.
     pub fn kind_of(&self, koid: Koid) -> Option<Kind> {
         let index = usize::try_from(koid.checked_sub(1)?).ok()?;
-        self.objects.get(index).copied()
+        self.above.objects.get(index).copied()
     }
 
     /// How many objects of the kind there are.
     pub fn count(&self, kind: Kind) -> usize {
-        self.objects.iter().filter(|made| **made == kind).count()
-    }
-}
-
-/// The kind of each object that there is behind so many statements.
-fn objects_of(alloc: Global, scenario: &Scenario, above: usize) -> Result<Vec<Kind>, AllocError> {
-    let mut objects = Vec::new(alloc);
-    objects.push(Kind::Job)?;
-    for statement in scenario.boot.statements.iter().take(above) {
-        objects.extend_from_slice(made_by(statement))?;
-    }
-    Ok(objects)
-}
-
-/// The kinds of the objects that the statement makes.
-fn made_by(statement: &Statement) -> &'static [Kind] {
-    match statement {
-        Statement::Job { .. } => &[Kind::Job],
-        Statement::Policy { .. } => &[],
-        Statement::Event => &[Kind::Event],
-        Statement::Port => &[Kind::Port],
-        Statement::Channel => &[Kind::Channel, Kind::Channel],
-        Statement::Eventpair => &[Kind::Eventpair, Kind::Eventpair],
-        Statement::Process { .. } => &[Kind::Process],
+        let of_kind = self.above.objects.iter().filter(|made| **made == kind);
+        of_kind.count()
     }
 }

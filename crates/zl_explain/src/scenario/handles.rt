@@ -31,7 +31,7 @@ pub fn push_no_handle(hint: &mut String, word: &[u8]) -> Told {
 pub fn push_no_object(hint: &mut String, faulty: &Faulty, handles: &[Grant]) -> Told {
     for (place, handle) in handles.iter().enumerate() {
         if faulty.kind_of(handle.koid).is_none() {
-            let last = faulty.objects.len();
+            let last = faulty.above.objects.len();
             tell!(hint; "the handle # names no object: there is no # above this line",
                 Word(faulty.handle(place)), handle.koid)?;
             return match last {

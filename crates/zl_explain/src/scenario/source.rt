@@ -1,7 +1,7 @@
 //! Where an input comes from, and how its lines are named.
 
+use crate::again::Line;
 use crate::text::Told;
-use crate::text::lines::Line;
 
 /// Where an input comes from.
 #[derive(Clone, Copy)]

@@ -1,10 +1,9 @@
 //! The handles that a checked program declares, beside those that a line gives to its process.
 
-use crate::program::block::block_of;
+use crate::again::{block_of, line_of_start};
 use crate::scenario::faulty::Faulty;
 use crate::scenario::numbers::push_rights;
 use crate::text::Value::Word;
-use crate::text::lines::Line;
 use crate::text::{Told, plural};
 use bitflags::Flags;
 use zl_code::{Grant, Start};
@@ -17,7 +16,7 @@ pub fn push_wrong_start(
     program: usize,
     handles: &[Grant],
 ) -> Told {
-    let Some(listed) = faulty.scenario.library.get(program) else {
+    let Some(listed) = faulty.above.scenario.library.get(program) else {
         return Ok(());
     };
     let starts = listed.image().starts();
@@ -56,19 +55,9 @@ fn is_declared(start: &Start, handle: Grant, faulty: &Faulty) -> bool {
 /// The line of the directive `.start` of this place, from 0, in the text of the program; 0 where it is
 /// written in digits.
 fn line_of(faulty: &Faulty, program: usize, place: usize) -> Told<u64> {
-    let opened = faulty.scenario.program_lines.get(program).copied();
+    let opened = faulty.above.scenario.program_lines.get(program).copied();
     let block = block_of(faulty.alloc, &faulty.lines, opened.unwrap_or(0))?;
-    let mut starts = block.lines.iter().filter(|line| is_start(line));
-    match starts.nth(place) {
-        Some(line) => Ok(line.number),
-        None => Ok(0),
-    }
-}
-
-/// Whether the line of a text is the directive `.start`.
-fn is_start(line: &Line) -> bool {
-    let text = str::from_utf8(line.bytes).unwrap_or("");
-    text.trim_matches(' ').starts_with(".start")
+    Ok(line_of_start(&block.lines, place).unwrap_or(0))
 }
 
 /// Adds what is declared, and by which line, if it is known.

@@ -2,15 +2,13 @@
 
 use std::alloc::{AllocError, Global};
 use zl_calls::World;
-use zl_code::{CallName, ProcState, TraceItem};
-use zl_explain::{Nearest, Page, Told, Value, is_among, line_at, push_page, tell, words_of};
-use zl_lines::{is_comment, split_words};
+use zl_code::{Boot, CallName, ProcState, TraceItem};
+use zl_explain::{
+    Nearest, Page, Told, Value, is_among, line_at, line_of_item, push_page, tell, words_of,
+};
 use zl_rights::{Pid, Status};
 use zl_scenario::{Reading, Scenario, read_scenario};
 use zl_trace::{push_item, read_bytes, replay};
-
-/// The most items of a trace.
-const MOST_ITEMS: usize = 1_000_000;
 
 /// Adds a line where so many items are none.
 pub fn explain_items(hints: &mut String, count: usize) {
@@ -40,7 +38,7 @@ fn push_difference(
     trace: &[u8],
     number: usize,
 ) -> Told {
-    if number > MOST_ITEMS {
+    if number as u64 > Boot::MOST_ITEMS {
         return hints.push_str("zlab: a trace has 1000000 items at most");
     }
     let Ok(items) = read_bytes(alloc, trace) else {
@@ -64,22 +62,6 @@ fn push_difference(
 fn push_end(hints: &mut String) -> Told {
     push_page(hints, Page::Trace)?;
     hints.push_str("\n")
-}
-
-/// The number of the line of the item of this place, from 1.
-fn line_of_item(alloc: Global, trace: &[u8], number: usize) -> Result<u64, AllocError> {
-    let mut left = number;
-    let mut words = Vec::new(alloc);
-    for (index, line) in trace.split(|byte| *byte == b'\n').enumerate() {
-        split_words(&mut words, line)?;
-        if !words.is_empty() && !is_comment(line) {
-            left = left.saturating_sub(1);
-            if left == 0 {
-                return Ok(index as u64 + 1);
-            }
-        }
-    }
-    Ok(0)
 }
 
 /// Adds the words of the item.

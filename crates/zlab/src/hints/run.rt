@@ -1,11 +1,11 @@
 //! What standard error says of a run.
 
-use std::alloc::{AllocError, Global};
-use zl_asm::words::is;
+use std::alloc::Global;
 use zl_calls::World;
 use zl_code::{Boot, CallName, ProcState, TraceItem};
-use zl_explain::{Line, Source, Stuck, Told, explain_stuck, numbered_lines, tell, words_of};
-use zl_lines::is_comment;
+use zl_explain::{
+    Source, Stuck, Told, explain_stuck, has_statements, line_of_turns, numbered_lines, tell,
+};
 use zl_rights::Pid;
 use zl_sched::{End, System};
 
@@ -123,20 +123,6 @@ fn push_no_turns(hints: &mut String, input: &[u8]) -> Told {
     })
 }
 
-/// Whether a line of the input, which isn't refused, is a statement or part of one.
-fn has_statements(input: &[u8]) -> bool {
-    for line in input.split(|byte| *byte == b'\n') {
-        let words = line.trim_ascii();
-        if is(words, b"--") {
-            return false;
-        }
-        if !words.is_empty() && !is_comment(line) {
-            return true;
-        }
-    }
-    false
-}
-
 /// Adds whose turns are the first that are of nobody, in all of the run.
 fn push_nobody(
     hints: &mut String,
@@ -171,26 +157,6 @@ fn first_of_nobody(world: &World, schedule: &[(Pid, u32)]) -> Option<(usize, Pid
         known = Some(pid);
     }
     None
-}
-
-/// The number of the line of turns of this place, from 0.
-fn line_of_turns(alloc: Global, lines: &[Line], place: usize) -> Result<u64, AllocError> {
-    let mut left = place;
-    let mut is_below = false;
-    for line in lines {
-        let words = words_of(alloc, line.bytes)?;
-        match words.as_slice() {
-            [word] if is(word, b"--") => is_below = true,
-            [_, ..] if is_below && !line.bytes.starts_with(b"#") => {
-                if left == 0 {
-                    return Ok(line.number);
-                }
-                left -= 1;
-            }
-            _ => {}
-        }
-    }
-    Ok(0)
 }
 
 /// Adds which processes there are, of many only the first and the last.

@@ -7,8 +7,8 @@ ghost use Rattle.zl_asm.specs.Lines.{number_within, need_of, kind_of, start_with
 
 use crate::fault::{AsmCause, WordFault};
 use crate::numbers::{number, spells_number};
-use crate::operands::{is_odd, misfit, number_operand};
-use crate::words::is;
+use crate::operands::{misfit, number_operand};
+use crate::words::{is, is_odd};
 use bitflags::Flags;
 use zl_code::{Image, SlotArray, Start};
 use zl_rights::{Condition, Kind, Rights};

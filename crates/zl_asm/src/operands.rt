@@ -13,7 +13,7 @@ ghost use Rattle.zl_code.specs.Limits.{most_registers};
 use crate::fault::{AsmCause, WordFault};
 use crate::line::Source;
 use crate::numbers::{is_name, number, register};
-use crate::words::is;
+use crate::words::{is, is_odd};
 use zl_code::{Ending, HandleList, InstrBytes, Row, Version};
 
 /// What stands behind the registers of an instruction: its last eight bytes, with the target 0
@@ -103,14 +103,6 @@ pub(crate) fn misfit(place: usize, word: &[u8], cause: AsmCause) -> WordFault {
     }
 }
 
-/// Whether the word has a byte that no word of the grammar has.
-pub(crate) fn is_odd(word: &[u8]) -> bool {
-    let rest = word.strip_prefix(b".").unwrap_or(word);
-    !rest
-        .iter()
-        .all(|byte| byte.is_ascii_alphanumeric() || *byte == b'_')
-}
-
 /// The last eight bytes with a number and a target.
 fn tail_with<'a>(number: u32, target: u32, label: Option<&'a [u8]>) -> Tail<'a>
     ensures { tail_value result
@@ -166,8 +158,11 @@ fn tail_of<'a>(ending: Ending, first: usize, operands: &[&'a [u8]]) -> Result<Ta
     }
 }
 
-/// What the text has behind the registers: a rep and an endrep are written without their targets.
-pub(crate) fn written(row: &Row) -> Ending
+/// What a text has behind the registers of an instruction of the row: a rep and an endrep are written
+/// without their targets.
+///
+/// Source: own profile.
+pub fn written(row: &Row) -> Ending
     ensures { result ≡ written (row_value row.now) }
 {
     if Version::One.knows(row.opcode) {

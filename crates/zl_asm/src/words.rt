@@ -20,6 +20,14 @@ pub fn is(word: &[u8], bytes: &[u8]) -> bool
     word == bytes
 }
 
+/// Whether the word has a byte that no word of the grammar has.
+pub fn is_odd(word: &[u8]) -> bool {
+    let rest = word.strip_prefix(b".").unwrap_or(word);
+    !rest
+        .iter()
+        .all(|byte| byte.is_ascii_alphanumeric() || *byte == b'_')
+}
+
 /// Puts the words of the line into `words`, in place of what it held. Spaces part words, a comma
 /// is a word of its own, and a semicolon ends the line. Where memory is refused, only the first of them
 /// stand there.

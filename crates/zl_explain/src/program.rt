@@ -15,7 +15,7 @@ use crate::program::meant::push_meant;
 use crate::text::Value::Word;
 use crate::text::{Told, push_head, push_odd_byte};
 use std::alloc::{AllocError, Global};
-use zl_asm::words::{is, split_words};
+use zl_asm::words::{is, is_odd, split_words};
 use zl_asm::{AsmCause, AsmFault};
 use zl_code::Image;
 
@@ -137,13 +137,6 @@ fn push_token(hint: &mut String, line: &Line, wrong: &Wrong) -> Told {
     };
     tell!(hint; text, Word(word))?;
     push_meant(hint, wrong, word)
-}
-
-/// Whether the word has a byte that no word of a text has.
-fn is_odd(word: &[u8]) -> bool {
-    let rest = word.strip_prefix(b".").unwrap_or(word);
-    rest.iter()
-        .any(|byte| !byte.is_ascii_alphanumeric() && *byte != b'_')
 }
 
 /// Adds in which line above the name of this line, which is that, stands already.

@@ -9,6 +9,7 @@ use crate::text::Value::Word;
 use crate::text::{Told, plural};
 use zl_asm::numbers::number;
 use zl_asm::words::is;
+use zl_asm::written;
 use zl_code::{Ending, Field, HandleList, Row};
 
 /// Adds which instruction was meant by a name that none has, or what the line is.
@@ -32,15 +33,6 @@ pub fn push_unknown_instruction(hint: &mut String, wrong: &Wrong) -> Told {
         }
     }
     nearest.push(hint)
-}
-
-/// What a text has behind the registers: a rep and an endrep are written without their targets.
-fn written(row: &Row) -> Ending {
-    match row.name {
-        "rep" => Ending::Number,
-        "endrep" => Ending::Nothing,
-        _ => row.columns.ending,
-    }
 }
 
 /// How many operands stand behind the registers, at least and at most, and what they are.

@@ -31,12 +31,6 @@ use zl_objects::{Body, Life, Objects, Pair};
 use zl_rights::{Action, Condition, Entry, Kind, Koid, Mode, Rights};
 use zl_table::Table;
 
-/// The most processes that a boot makes (own profile).
-const MOST_PROCESSES: usize = 64;
-
-/// The most koids that a boot gives, the root job's among them (own profile).
-const MOST_KOIDS: Koid = 1024;
-
 /// The processes and objects that statements have made.
 #[derive(Drop)]
 pub struct Made {
@@ -216,7 +210,7 @@ impl Made {
         requires { count ≤ 2 }
         ensures { result ≡ nat_lt (MOST_KOIDS + 1) (self.now.objects.next_koid + count) }
     {
-        self.objects.end_of_koids() > MOST_KOIDS + 1 - count
+        self.objects.end_of_koids() > Boot::MOST_KOIDS + 1 - count
     }
 
     fn make_process(
@@ -291,7 +285,7 @@ impl Made {
         if lacks_need(&self.objects, job, listed) {
             return Err(BootCause::NeedDenied);
         }
-        if self.processes.len() >= MOST_PROCESSES || self.lacks_koids(1) {
+        if self.processes.len() >= Boot::MOST_PROCESSES || self.lacks_koids(1) {
             return Err(BootCause::Limit);
         }
         Ok(listed.image())

@@ -17,6 +17,12 @@ impl Boot {
     /// The largest limit of a trace.
     pub const MOST_ITEMS: u64 = 1_000_000;
 
+    /// The most processes that a boot makes.
+    pub const MOST_PROCESSES: usize = 64;
+
+    /// The most koids that a boot gives, the root job's among them.
+    pub const MOST_KOIDS: Koid = 1024;
+
     /// Another boot of the same statements, with the same limit. Only memory can be refused.
     pub fn copy(&self, alloc: Global) -> Result<Boot, AllocError>
         ensures statements { IfOk result

@@ -22,7 +22,7 @@ use crate::text::Value::Word;
 use crate::text::{Told, plural, push_head, push_odd_byte};
 use std::alloc::Global;
 use zl_asm::words::is;
-use zl_code::Statement;
+use zl_code::{Boot, Statement};
 use zl_rights::Kind;
 use zl_scenario::{Cause, Form, PlacedFault, number};
 
@@ -49,12 +49,6 @@ const STATEMENTS: [(&str, &str); 11] = [
     ("end", "# closes the block of a program, and none is open"),
     ("--", ALONE),
 ];
-
-/// The most processes that a scenario starts, as a boot counts them.
-const MOST_PROCESSES: usize = 64;
-
-/// The most objects that a scenario makes, the root job among them, as a boot counts them.
-const MOST_OBJECTS: usize = 1024;
 
 /// Adds a line that says why the scenario is refused, whose answer has this fault.
 pub fn explain_scenario(
@@ -261,10 +255,10 @@ fn push_refused(hint: &mut String, faulty: &Faulty, statement: &Statement) -> To
 fn push_too_many(hint: &mut String, faulty: &Faulty, statement: &Statement) -> Told {
     let last = faulty.above.objects.len();
     match statement {
-        Statement::Process { .. } if faulty.count(Kind::Process) >= MOST_PROCESSES => {
+        Statement::Process { .. } if faulty.count(Kind::Process) >= Boot::MOST_PROCESSES => {
             hint.push_str("a scenario starts at most 64 processes")
         }
-        Statement::Job { .. } if last < MOST_OBJECTS => {
+        Statement::Job { .. } if (last as u64) < Boot::MOST_KOIDS => {
             tell!(hint; "job # stands at the depth 16, and no job is made below it; job 1 has the depth 1",
                 Word(faulty.word(1)))
         }

@@ -6,17 +6,19 @@ ghost use Rattle.zl_command.specs.Words.{are_accepted, assembling, bad_of, check
 ghost use Rattle.zl_command.specs.Words.{running, single, stepping};
 ghost use Rattle.zl_command.specs.declared.command.WordFault.TheVariants.{NoMemory, Usage};
 
+mod numbers;
 mod texts;
 
 use clap::builder::ValueParser;
 use clap::error::ErrorKind;
 use clap::{Arg, ArgAction, ArgMatches, Command};
+pub use numbers::Numbers;
 use std::alloc::{AllocError, Global};
 use std::convert::AsStr;
 use thiserror::Error;
 
 /// How often `--bad` may stand among the words.
-const MOST_BAD: usize = 16;
+pub const MOST_BAD: usize = 16;
 
 /// What a command line asks for.
 #[derive(Debug, Drop)]
@@ -354,9 +356,9 @@ fn replaying<'a>(alloc: Global) -> Result<Command<'a>, AllocError>
 fn running<'a>(alloc: Global) -> Result<Command<'a>, AllocError>
     ensures { IfOk result (λ made. app_of made ≡ running) }
 {
-    let workers = numbered(alloc, "workers", "N", texts::WORKERS, 1, 64);
-    let limit = numbered(alloc, "limit", "M", texts::LIMIT, 0, 1_000_000);
-    let burst = numbered(alloc, "burst", "K", texts::BURST, 1, 1_000_000);
+    let workers = numbered(alloc, "workers", "N", texts::WORKERS, Numbers::WORKERS);
+    let limit = numbered(alloc, "limit", "M", texts::LIMIT, Numbers::LIMIT);
+    let burst = numbered(alloc, "burst", "K", texts::BURST, Numbers::BURST);
     Command::new(alloc, "run")
         .about("Runs the scenario in the file SCENARIO on N threads")
         .arg(needed(alloc, "SCENARIO", "The file of the scenario"))?
@@ -368,8 +370,8 @@ fn running<'a>(alloc: Global) -> Result<Command<'a>, AllocError>
 fn exploring<'a>(alloc: Global) -> Result<Command<'a>, AllocError>
     ensures { IfOk result (λ made. app_of made ≡ exploring) }
 {
-    let worlds = numbered(alloc, "worlds", "N", texts::WORLDS, 1, 1_000_000_000);
-    let from = numbered(alloc, "from", "D", texts::FROM, 0, 1000);
+    let worlds = numbered(alloc, "worlds", "N", texts::WORLDS, Numbers::WORLDS);
+    let from = numbered(alloc, "from", "D", texts::FROM, Numbers::FROM);
     Command::new(alloc, "explore")
         .about("Takes the turns of the scenario in the file SCENARIO in each order, for its ends")
         .arg(needed(alloc, "SCENARIO", "The file of the scenario"))?
@@ -402,22 +404,21 @@ fn single<'a>(alloc: Global, name: &'a str, letter: &'a str, help: &'a str) -> A
         .value_name(letter)
 }
 
-/// An option that must be there, whose value is a number from the one to the other.
+/// An option that must be there, whose value is one of these numbers.
 fn numbered<'a>(
     alloc: Global,
     name: &'a str,
     letter: &'a str,
     help: &'a str,
-    least: u64,
-    most: u64,
+    numbers: Numbers,
 ) -> Arg<'a>
-    ensures rule { rule_of result ≡ numbered name.entry.now least most }
+    ensures rule { rule_of result ≡ numbered name.entry.now numbers.least numbers.most }
     ensures local { result.global ≡ false }
 {
     needed(alloc, name, help)
         .long(name)
         .value_name(letter)
-        .value_parser(ValueParser::unsigned(least, most))
+        .value_parser(ValueParser::unsigned(numbers.least, numbers.most))
 }
 
 /// A word that must be there.

@@ -7,4 +7,4 @@
 
 mod command;
 
-pub use command::{Asked, Task, WordFault, parse};
+pub use command::{Asked, MOST_BAD, Numbers, Task, WordFault, parse};

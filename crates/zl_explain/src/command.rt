@@ -8,6 +8,7 @@ use crate::text::Told;
 use crate::text::Value::Word;
 use std::alloc::Global;
 use std::convert::AsStr;
+use zl_command::{MOST_BAD, Numbers};
 
 /// A command whose words are files, and perhaps options.
 #[derive(Clone, Copy)]
@@ -23,37 +24,37 @@ struct Form {
 #[derive(Clone, Copy)]
 struct Choice {
     name: &'static str,
-    most: u32,
+    most: usize,
     takes: Takes,
 }
 
 /// What an option takes.
 #[derive(Clone, Copy)]
 enum Takes {
-    /// A number from the least to the most.
-    Number(u64, u64),
+    /// One of these numbers.
+    Number(Numbers),
     /// A word; what is said where there is none.
     Word(&'static str),
 }
 
 // Each option of a command by a line.
 macro_rules! choices {
-    ($($name:literal $most:literal $takes:expr;)*) => {
+    ($($name:literal $most:tt $takes:expr;)*) => {
         [$(Choice { name: $name, most: $most, takes: $takes }),*]
     };
 }
 
 const OPTIONS_OF_RUN: [Choice; 3] = choices! {
-    "--workers" 1 Takes::Number(1, 64);
-    "--limit" 1 Takes::Number(0, 1_000_000);
-    "--burst" 1 Takes::Number(1, 1_000_000);
+    "--workers" 1 Takes::Number(Numbers::WORKERS);
+    "--limit" 1 Takes::Number(Numbers::LIMIT);
+    "--burst" 1 Takes::Number(Numbers::BURST);
 };
 
 const OPTIONS_OF_EXPLORE: [Choice; 4] = choices! {
-    "--worlds" 1 Takes::Number(1, 1_000_000_000);
-    "--bad" 16 Takes::Word("--bad takes WORDS, one word as '* blocked', and has none");
+    "--worlds" 1 Takes::Number(Numbers::WORLDS);
+    "--bad" MOST_BAD Takes::Word("--bad takes WORDS, one word as '* blocked', and has none");
     "--part" 1 Takes::Word("--part takes K/N, one word as 2/4, and has none");
-    "--from" 1 Takes::Number(0, 1000);
+    "--from" 1 Takes::Number(Numbers::FROM);
 };
 
 // Each command by a line.
@@ -77,7 +78,7 @@ const FORMS: [Form; 6] = forms! {
 struct Met {
     files: usize,
     /// How often each option of the command was among them.
-    options: [u32; 4],
+    options: [usize; 4],
     /// Whether a word `--` was among them.
     are_files: bool,
     /// The option whose word is the next one.
@@ -241,8 +242,8 @@ fn push_no_option(hint: &mut String, alloc: Global, form: &Form, word: &[u8]) ->
 
 /// Adds that the option doesn't take the word, if it doesn't. One that takes words takes no option among them.
 fn push_wrong_value(hint: &mut String, option: Choice, word: &str, is_option: bool) -> Told<bool> {
-    let (least, most) = match option.takes {
-        Takes::Number(least, most) => (least, most),
+    let Numbers { least, most } = match option.takes {
+        Takes::Number(numbers) => numbers,
         Takes::Word(text) if is_option => {
             hint.push_str(text)?;
             return Ok(true);
@@ -285,7 +286,7 @@ fn push_missing(hint: &mut String, form: &Form, met: Met) -> Told {
 
 /// Adds that an option, whose number has this letter, is missing behind `run`.
 fn push_no_number(hint: &mut String, option: Choice, letter: &'static str) -> Told {
-    if let Takes::Number(least, most) = option.takes {
+    if let Takes::Number(Numbers { least, most }) = option.takes {
         tell!(hint; "run takes # #, # from # to #, and has none",
             option.name, letter, letter, least, most)?;
     }

@@ -3,8 +3,8 @@
 //!
 //! It stands on `zl_scenario` for how a scenario is read, on `zl_lines` for how a line is cut into words,
 //! on `zl_asm` for how a text is read and an instruction is written, on `zl_verify` and `zl_abs` for what
-//! the verifier knows where it refuses, on `zl_code` and `zl_rights` for what an image has, on `bitflags`,
-//! and on `strsim` for the name that was meant.
+//! the verifier knows where it refuses, on `zl_code` and `zl_rights` for what an image has, on `zl_command`
+//! for the numbers that options take, on `bitflags`, and on `strsim` for the name that was meant.
 //!
 //! Texts for people have no contract: each function is safe and returns, whatever it is given, and no
 //! more is promised. A function that adds to a hint answers with `AllocError` where memory is refused,

@@ -13,9 +13,6 @@ use zl_rights::{Condition, Kind, Status};
 /// No word above this length is compared.
 const MOST_COMPARED: usize = 40;
 
-/// No kind has a number above this one.
-const MOST_KIND: u32 = 17;
-
 /// The nearest of the names that were tried so far, where capital letters count as small ones.
 #[derive(Drop)]
 pub struct Nearest<'name> {
@@ -76,7 +73,8 @@ impl<'name> Nearest<'name> {
 
     /// Tries the names of all kinds.
     pub fn try_kinds(&mut self) -> Told {
-        for number in 0..=MOST_KIND {
+        // no kind has a number above a job's
+        for number in 0..=Kind::Job.number() {
             if let Some(kind) = Kind::from_number(number) {
                 self.try_name(kind.name())?;
             }

@@ -6,7 +6,7 @@ use crate::refusal::register::{kinds_of, missing_of};
 use crate::text::Told;
 use bitflags::Flags;
 use zl_abs::{AbsVal, Blamed, Cause};
-use zl_code::{CallName, InstrBytes, Register, Start};
+use zl_code::{CallName, Instr, InstrBytes, LocalInstr, Register, Start};
 use zl_rights::{Kind, Rights};
 
 /// Adds what to do about the register that is at fault, where something is known.
@@ -32,7 +32,7 @@ pub fn push_advice(hint: &mut String, site: &Site, blamed: &Blamed, cause: Cause
                 register)
         }
         (Cause::Leak, _) => hint.push_str("; close it first, or take it to another register"),
-        (Cause::NotWord, _) => hint.push_str(advice_on_numbers(site.parts.opcode)),
+        (Cause::NotWord, _) => hint.push_str(advice_on_numbers(site)),
         _ => Ok(()),
     }
 }
@@ -162,15 +162,22 @@ fn push_test_of_rights(
     }
 }
 
-/// What to do where a handle is read as a number by the instruction with this opcode.
-fn advice_on_numbers(opcode: u8) -> &'static str {
-    match opcode {
-        // mov
-        2 => "; take moves a handle",
-        // st8, st64
-        15 | 16 => "; a handle goes into a slot array, by swap",
-        // jeq, jne, jlt, jge, jhas, jnhas
-        20 | 21 | 22 | 23 | 24 | 25 => "; only jz and jnz test a handle",
+/// What to do where a handle is read as a number by the instruction.
+fn advice_on_numbers(site: &Site) -> &'static str {
+    let Some(Instr::Local(instr)) = site.image.code().get(site.at) else {
+        return "";
+    };
+    match instr {
+        LocalInstr::Move { .. } => "; take moves a handle",
+        LocalInstr::StoreByte { .. } | LocalInstr::StoreWord { .. } => {
+            "; a handle goes into a slot array, by swap"
+        }
+        LocalInstr::JumpEqual { .. }
+        | LocalInstr::JumpNotEqual { .. }
+        | LocalInstr::JumpBelow { .. }
+        | LocalInstr::JumpNotBelow { .. }
+        | LocalInstr::JumpHas { .. }
+        | LocalInstr::JumpHasNot { .. } => "; only jz and jnz test a handle",
         _ => "",
     }
 }

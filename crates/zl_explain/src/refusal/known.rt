@@ -8,7 +8,7 @@ use zl_code::Register;
 use zl_rights::{Kind, Rights};
 
 /// How many registers there are.
-pub const REGISTERS: u8 = 32;
+pub const REGISTERS: u8 = Register::COUNT as u8;
 
 /// The name of the kind; `any` where it isn't known.
 pub fn kind_name(kind: Option<Kind>) -> &'static str {

@@ -1,7 +1,7 @@
 //! The registers of an instruction, and what it does with each, as its row has it.
 
 use zl_abs::AbsState;
-use zl_code::{Columns, Ending, Field, Image, InstrBytes, Kinds, Register, Row};
+use zl_code::{Columns, Ending, Field, HandleList, Image, InstrBytes, Kinds, Register, Row};
 use zl_rights::Kind;
 
 /// The instruction at which an image is refused, and what is known there.
@@ -33,8 +33,8 @@ pub enum Use {
     Write,
 }
 
-/// The most registers that an instruction reads or writes.
-pub const MOST_PLACES: usize = 30;
+/// The most registers that an instruction reads or writes, three of them for each handle that it receives.
+pub const MOST_PLACES: usize = InstrBytes::REGISTERS - 1 + 3 * HandleList::MOST;
 
 /// The register in this place of the instruction, if there is one: of its row, of those that are received,
 /// or of its list.

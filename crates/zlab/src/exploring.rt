@@ -36,8 +36,8 @@ pub enum Begun {
 /// what one of the patterns names. Of a part that is said of its own orders, so that the answers of all parts
 /// together say it of all. It is `Bad` where one has, with a schedule that leads there, `Cut` where there
 /// would be more worlds than there may be, and `Memory` where memory was refused. No more is read than one
-/// byte past 4,194,304. `progress` is told of each doubling of the worlds. To `hints` it adds for a person why the input is refused, or why the search isn't
-/// whole.
+/// byte past 4,194,304. `progress` is told of each doubling of the worlds. To `hints` it adds for a person
+/// why the input is refused, or why the search isn't whole.
 /// A fault of the reader is `Read`, with nothing written. A fault of the writer, and a want of memory
 /// before the search begins, leave nothing or a beginning of such an answer.
 pub fn explore_engine<R: Read, W: Write, P: Progress>(
